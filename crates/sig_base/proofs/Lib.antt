@@ -1,0 +1,5 @@
+pub mod Counts
+pub mod Fronts
+pub mod Places
+pub mod Refused
+pub mod Written

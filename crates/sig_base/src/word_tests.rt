@@ -1,0 +1,81 @@
+// What the clauses cannot show: that the table of words is the Definition's.
+use crate::Word;
+
+#[test]
+fn finds_each_word(rt: HostRuntime) {
+    let words = [
+        (b"abstype".as_slice(), Word::KwAbstype),
+        (b"and".as_slice(), Word::KwAnd),
+        (b"andalso".as_slice(), Word::KwAndalso),
+        (b"as".as_slice(), Word::KwAs),
+        (b"case".as_slice(), Word::KwCase),
+        (b"datatype".as_slice(), Word::KwDatatype),
+        (b"do".as_slice(), Word::KwDo),
+        (b"else".as_slice(), Word::KwElse),
+        (b"end".as_slice(), Word::KwEnd),
+        (b"exception".as_slice(), Word::KwException),
+        (b"fn".as_slice(), Word::KwFn),
+        (b"fun".as_slice(), Word::KwFun),
+        (b"handle".as_slice(), Word::KwHandle),
+        (b"if".as_slice(), Word::KwIf),
+        (b"in".as_slice(), Word::KwIn),
+        (b"infix".as_slice(), Word::KwInfix),
+        (b"infixr".as_slice(), Word::KwInfixr),
+        (b"let".as_slice(), Word::KwLet),
+        (b"local".as_slice(), Word::KwLocal),
+        (b"nonfix".as_slice(), Word::KwNonfix),
+        (b"of".as_slice(), Word::KwOf),
+        (b"op".as_slice(), Word::KwOp),
+        (b"open".as_slice(), Word::KwOpen),
+        (b"orelse".as_slice(), Word::KwOrelse),
+        (b"raise".as_slice(), Word::KwRaise),
+        (b"rec".as_slice(), Word::KwRec),
+        (b"then".as_slice(), Word::KwThen),
+        (b"type".as_slice(), Word::KwType),
+        (b"val".as_slice(), Word::KwVal),
+        (b"with".as_slice(), Word::KwWith),
+        (b"withtype".as_slice(), Word::KwWithtype),
+        (b"while".as_slice(), Word::KwWhile),
+        (b"(".as_slice(), Word::KwLParen),
+        (b")".as_slice(), Word::KwRParen),
+        (b"[".as_slice(), Word::KwLBracket),
+        (b"]".as_slice(), Word::KwRBracket),
+        (b"{".as_slice(), Word::KwLBrace),
+        (b"}".as_slice(), Word::KwRBrace),
+        (b",".as_slice(), Word::KwComma),
+        (b":".as_slice(), Word::KwColon),
+        (b";".as_slice(), Word::KwSemicolon),
+        (b"...".as_slice(), Word::KwDots),
+        (b"_".as_slice(), Word::KwUnderscore),
+        (b"|".as_slice(), Word::KwBar),
+        (b"=".as_slice(), Word::KwEquals),
+        (b"=>".as_slice(), Word::KwDArrow),
+        (b"->".as_slice(), Word::KwArrow),
+        (b"#".as_slice(), Word::KwHash),
+        (b"eqtype".as_slice(), Word::KwEqtype),
+        (b"functor".as_slice(), Word::KwFunctor),
+        (b"include".as_slice(), Word::KwInclude),
+        (b"sharing".as_slice(), Word::KwSharing),
+        (b"sig".as_slice(), Word::KwSig),
+        (b"signature".as_slice(), Word::KwSignature),
+        (b"struct".as_slice(), Word::KwStruct),
+        (b"structure".as_slice(), Word::KwStructure),
+        (b"where".as_slice(), Word::KwWhere),
+        (b":>".as_slice(), Word::KwSeal),
+    ];
+    for (text, word) in words {
+        assert!(rt; Word::of(text) == Some(word), "at {word:?}");
+    }
+    for text in [
+        b"exn".as_slice(),
+        b"",
+        b"Type",
+        b"typ",
+        b"types",
+        b"==",
+        b"*",
+        b".",
+    ] {
+        assert!(rt; Word::of(text) == None);
+    }
+}
