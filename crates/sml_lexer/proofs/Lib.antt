@@ -1,0 +1,10 @@
+pub mod Sorts
+pub mod Runs
+pub mod Shapes
+pub mod Maximal
+pub mod Parts
+pub mod Marks
+pub mod OneKind
+pub mod Reading
+pub mod Laws
+pub mod Lines
