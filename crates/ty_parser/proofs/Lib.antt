@@ -1,0 +1,9 @@
+pub mod Runs
+pub mod Complete
+pub mod Sound
+pub mod Closing
+pub mod Refused
+pub mod Viable
+pub mod Types
+pub mod Pieces
+pub mod Tokens

@@ -1,0 +1,12 @@
+use Rattle.std.proofs.Common.{◌-◌, ◌≤◌, length}
+use Rattle.ty_parser.specs.Sorts.{sorts_of}
+use Rattle.ty_parser.specs.Machine.{state_of}
+use Rattle.ty_parser.proofs.Viable.{ReadTo}
+use Rattle.ty_parser.proofs.Types.{types}
+use Rattle.ty_parser.proofs.parse.parse_type.Given as goal
+
+abbrev pub invariant-tokens : goal.invariant-tokens
+invariant-tokens l = record { within : l.place ≤ length l.tokens; read : ReadTo types (sorts_of l.bytes l.tokens) l.place (state_of l.reader) }
+
+abbrev pub decreases-tokens : goal.decreases-tokens
+decreases-tokens l = length l.tokens - l.place
