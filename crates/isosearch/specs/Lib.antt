@@ -1,0 +1,15 @@
+pub mod Elaboration
+pub mod Ending
+pub mod Library
+pub mod Limits
+pub mod Lines
+pub mod Measures
+pub mod Outcome
+pub mod Query
+pub mod Refusals
+pub mod Report
+pub mod SourceFile
+pub mod SourceMachine
+pub mod Sources
+pub mod Texts
+pub mod Words

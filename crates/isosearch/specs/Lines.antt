@@ -1,0 +1,44 @@
+-- The lines for standard error.
+use Rattle.std.specs.Prelude.{◌⊎◌, ℕ, ◌<◌, List, [], ◌∷◌, ◌++◌, Option, codes, decimal}
+use Rattle.std.specs.Io.KnownBytes.{Appends}
+use Rattle.sig_base.specs.Faults.{Rose}
+use Rattle.sig_base.specs.Writing.{AppendsPart}
+use Rattle.sml_lexer.specs.Places.{line_at, column_at}
+
+-- a line was added, or a part of it and the count of faults rose
+abbrev pub Says : Option (List ℕ) → Option (List ℕ) → ℕ → ℕ → List ℕ → Type 0
+Says before now count later line = Appends before now line ⊎ (Rose count later × AppendsPart before now line)
+
+abbrev pub usage_line : List ℕ
+usage_line = codes "usage: isosearch list|same|iso|general|index|gen\n"
+
+abbrev pub no_memory_line : List ℕ
+no_memory_line = codes "out of memory\n"
+
+abbrev pub not_written_line : List ℕ
+not_written_line = codes "output: cannot be written\n"
+
+abbrev pub not_read_line : List ℕ → List ℕ
+not_read_line file = file ++ codes ": cannot be read\n"
+
+abbrev pub too_long_line : List ℕ → List ℕ
+too_long_line file = file ++ codes ": longer than 4194304 bytes\n"
+
+-- what a refusal says
+abbrev pub not_built : List ℕ
+not_built = codes "not built yet"
+
+abbrev pub too_large : List ℕ
+too_large = codes "query is too large"
+
+-- a refusal in a source of this name, at a line and a column
+abbrev pub refusal_at : List ℕ → ℕ → ℕ → List ℕ → List ℕ
+refusal_at name line column text = name ++ codes ":" ++ decimal line ++ codes ":" ++ decimal column ++ codes ": " ++ text ++ codes "\n"
+
+-- a refusal in a source of this name and these bytes, at the place of a byte
+abbrev pub refusal_line : List ℕ → List ℕ → ℕ → List ℕ → List ℕ
+refusal_line name bytes place text = refusal_at name (line_at bytes place) (column_at bytes place) text
+
+-- the name of the query
+abbrev pub query_name : List ℕ
+query_name = codes "query"

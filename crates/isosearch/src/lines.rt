@@ -1,0 +1,87 @@
+// The lines for standard error. None of them takes memory.
+ghost use Rattle.std.specs.Prelude.{◌≡◌, ◌++◌, List, map, length};
+ghost use Rattle.std.specs.List.{concat};
+ghost use Rattle.isosearch.specs.Lines.{Says, usage_line, no_memory_line, not_written_line, not_read_line, too_long_line, refusal_at, query_name, not_built as not_built_text, too_large as too_large_text};
+
+use crate::decimal::Decimal;
+use sig_base::{Sink, write_all};
+use sml_lexer::LineCol;
+
+// Writes pieces one after the other, until one fails.
+fn say<E: Sink>(err: &mut E, pieces: &[&[u8]])
+    ensures { Says (E.written err.old) (E.written err.new) (E.faults err.old) (E.faults err.new) (concat (map (λ piece. piece.now) pieces.now)) }
+{
+    for piece in pieces {
+        match write_all(err, piece) {
+            Ok(()) => {}
+            Err(_) => return,
+        }
+    }
+}
+
+// Writes a name and what is said of it.
+fn say_of<E: Sink>(err: &mut E, name: &str, text: &str)
+    ensures { Says (E.written err.old) (E.written err.new) (E.faults err.old) (E.faults err.new) (name.now ++ text.now) }
+{
+    say(err, &[name.as_bytes(), text.as_bytes()]);
+}
+
+/// The words are no command.
+pub fn usage<E: Sink>(err: &mut E)
+    ensures { Says (E.written err.old) (E.written err.new) (E.faults err.old) (E.faults err.new) usage_line }
+{
+    say_of(
+        err,
+        "",
+        "usage: isosearch list|same|iso|general|index|gen\n",
+    );
+}
+
+/// Memory was wanted.
+pub fn no_memory<E: Sink>(err: &mut E)
+    ensures { Says (E.written err.old) (E.written err.new) (E.faults err.old) (E.faults err.new) no_memory_line }
+{
+    say_of(err, "", "out of memory\n");
+}
+
+/// The output failed.
+pub fn not_written<E: Sink>(err: &mut E)
+    ensures { Says (E.written err.old) (E.written err.new) (E.faults err.old) (E.faults err.new) not_written_line }
+{
+    say_of(err, "", "output: cannot be written\n");
+}
+
+/// A file failed.
+pub fn not_read<E: Sink>(err: &mut E, file: &str)
+    ensures { Says (E.written err.old) (E.written err.new) (E.faults err.old) (E.faults err.new) (not_read_line file.now) }
+{
+    say_of(err, file, ": cannot be read\n");
+}
+
+/// A file is longer than a source may be.
+pub fn too_long<E: Sink>(err: &mut E, file: &str)
+    ensures { Says (E.written err.old) (E.written err.new) (E.faults err.old) (E.faults err.new) (too_long_line file.now) }
+{
+    say_of(err, file, ": longer than 4194304 bytes\n");
+}
+
+/// A source is refused at a line and a column.
+pub fn refusal<E: Sink>(err: &mut E, name: &str, at: LineCol, text: &str)
+    ensures { Says (E.written err.old) (E.written err.new) (E.faults err.old) (E.faults err.new) (refusal_at name.now at.line at.col text.now) }
+{
+    let line = Decimal::of(at.line);
+    let column = Decimal::of(at.col);
+    say(
+        err,
+        &[
+            name.as_bytes(),
+            b":".as_slice(),
+            line.as_slice(),
+            b":".as_slice(),
+            column.as_slice(),
+            b": ".as_slice(),
+            text.as_bytes(),
+            b"\n".as_slice(),
+        ],
+    );
+}

@@ -1,0 +1,196 @@
+// The command, over any files and sinks.
+ghost use Rattle.std.specs.Prelude.{◌≡◌, ◌↔◌, ◌⊎◌, ◌≤◌, ℕ, List, length, map, string_bytes, IfOk, IfErr, IfSome, IsErrOf, IsNone};
+ghost use Rattle.std.specs.Io.KnownBytes.{Appends};
+ghost use Rattle.sig_base.specs.Faults.{NoneFell, Rose};
+ghost use Rattle.sig_base.specs.Writing.{AppendsPart};
+ghost use Rattle.isosearch.specs.Ending.{Answers, EndsAsDue, EndsShort, Finds, IsAnswered, IsDecided, IsRefused, IsReport, Refuses, outcome_of, reported};
+ghost use Rattle.isosearch.specs.Library.{AreSchemes};
+ghost use Rattle.isosearch.specs.Lines.{Says, no_memory_line, not_read_line, not_written_line, usage_line};
+ghost use Rattle.isosearch.specs.Outcome.{Due};
+ghost use Rattle.isosearch.specs.Refusals.{QueryFails, SearchFails};
+ghost use Rattle.isosearch.specs.Words.{command_of as the_command, given};
+ghost use Rattle.type_core.specs.Schemes.{IsScheme};
+
+use crate::library::{SourceRefusal, read_library};
+use crate::lines;
+use crate::query::read_query;
+use crate::report::{Report, report_hits};
+use crate::words::{Command, command_of};
+use sig_base::{Files, NoMemory, ReadRefusal, Sink, read_whole, write_all};
+use sml_lexer::{LineCol, position};
+use std::alloc::Global;
+use type_core::{Member, Scheme, initial_names};
+
+// The greatest number of bytes in a file or a query.
+const MAX_SOURCE: u32 = 4_194_304;
+
+/// Why there is no report.
+#[derive(Clone, Copy, Debug, PartialEq, Eq)]
+pub enum Refusal {
+    ReadFault,
+    TooLong,
+    /// The file is refused at a line and a column.
+    File(LineCol),
+    /// The query is refused at a line and a column.
+    Query(LineCol),
+    QueryTooLarge,
+    NoMemory,
+}
+
+// The report of a scheme among members.
+fn report_of(alloc: Global, members: &[Member], scheme: &Scheme) -> Result<Report, NoMemory>
+    requires schemes { AreSchemes members.now }
+    requires query { IsScheme scheme.now }
+    ensures { IfOk result (λ r. IsReport scheme.now members.now r) }
+{
+    let names = initial_names(alloc)?;
+    report_hits(alloc, &names, members, scheme)
+}
+
+// The report of a query among members.
+fn answer(alloc: Global, members: &[Member], query: &str) -> Result<Report, Refusal>
+    requires schemes { AreSchemes members.now }
+    ensures found { IfOk result (λ r. Answers query.now members.now r) }
+    ensures refusal { IfErr result (λ r. QueryFails query.now r) }
+{
+    if query.len() > MAX_SOURCE as usize {
+        return Err(Refusal::QueryTooLarge);
+    }
+    match read_query(alloc, query.as_bytes()) {
+        Ok(scheme) => match report_of(alloc, members, &scheme) {
+            Ok(report) => Ok(report),
+            Err(_) => Err(Refusal::NoMemory),
+        },
+        Err(SourceRefusal::NotBuilt(place)) => {
+            Err(Refusal::Query(position(query.as_bytes(), place)))
+        }
+        Err(SourceRefusal::NoMemory) => Err(Refusal::NoMemory),
+    }
+}
+
+// The report of a query in a file of these bytes.
+fn search_in(alloc: Global, bytes: &[u8], query: &str) -> Result<Report, Refusal>
+    requires size { length bytes.now ≤ 4194304 }
+    ensures found { IfOk result (λ r. Finds bytes.now query.now r) }
+    ensures refusal { IfErr result (λ r. SearchFails bytes.now query.now r) }
+{
+    match read_library(alloc, bytes) {
+        Ok(members) => answer(alloc, members.as_slice(), query),
+        Err(SourceRefusal::NotBuilt(place)) => Err(Refusal::File(position(bytes, place))),
+        Err(SourceRefusal::NoMemory) => Err(Refusal::NoMemory),
+    }
+}
+
+// The report that a command asks for.
+fn search<F: Files>(alloc: Global, command: Command<'_>, files: &mut F) -> Result<Report, Refusal>
+    ensures found { IfOk result (λ r. Due (F.files files.old) (given command.entry) (reported r)) }
+    ensures refusal { IfErr result (λ r. Refuses (F.files files.old) (given command.entry) r) }
+    ensures fault { IsErrOf result Refusal.ReadFault → Rose (F.read_faults files.old command.entry.file.now) (F.read_faults files.new command.entry.file.now) }
+    ensures counts { NoneFell (F.read_faults files.old) (F.read_faults files.new) }
+    ensures kept { F.files files.new ≡ F.files files.old }
+{
+    match read_whole(alloc, files, command.file, MAX_SOURCE) {
+        Ok(bytes) => search_in(alloc, bytes.as_slice(), command.query),
+        Err(ReadRefusal::ReadFault) => Err(Refusal::ReadFault),
+        Err(ReadRefusal::TooLong) => Err(Refusal::TooLong),
+        Err(ReadRefusal::NoMemory) => Err(Refusal::NoMemory),
+    }
+}
+
+// Says why there is no report, and answers the status.
+fn refuse<E: Sink>(err: &mut E, command: Command<'_>, refusal: Refusal) -> u8
+    ensures status { result ≡ (outcome_of (given command.entry) refusal).status }
+    ensures line { Says (E.written err.old) (E.written err.new) (E.faults err.old) (E.faults err.new) (outcome_of (given command.entry) refusal).err }
+{
+    match refusal {
+        Refusal::ReadFault => {
+            lines::not_read(err, command.file);
+            5
+        }
+        Refusal::TooLong => {
+            lines::too_long(err, command.file);
+            3
+        }
+        Refusal::File(at) => {
+            lines::refusal(err, command.file, at, "not built yet");
+            3
+        }
+        Refusal::Query(at) => {
+            lines::refusal(err, "query", at, "not built yet");
+            4
+        }
+        Refusal::QueryTooLarge => {
+            lines::refusal(
+                err,
+                "query",
+                LineCol { line: 1, col: 1 },
+                "query is too large",
+            );
+            4
+        }
+        Refusal::NoMemory => {
+            lines::no_memory(err);
+            7
+        }
+    }
+}
+
+// Writes a report, and answers the status.
+fn print<O: Sink, E: Sink>(report: &Report, out: &mut O, err: &mut E) -> u8
+    ensures statuses { (result ≡ (reported report.now).status) ⊎ (result ≡ 6) }
+    ensures whole { (result ≡ 6 → ⊥) → Appends (O.written out.old) (O.written out.new) report.now.text × (E.written err.new ≡ E.written err.old) }
+    ensures part { result ≡ 6 → AppendsPart (O.written out.old) (O.written out.new) report.now.text }
+    ensures fault { result ≡ 6 → Rose (O.faults out.old) (O.faults out.new) }
+    ensures line { result ≡ 6 → Says (E.written err.old) (E.written err.new) (E.faults err.old) (E.faults err.new) not_written_line }
+{
+    match write_all(out, report.text.as_slice()) {
+        Ok(()) => { if report.hits == 0 { 1 } else { 0 } }
+        Err(_) => {
+            lines::not_written(err);
+            6
+        }
+    }
+}
+
+/// Does what the words ask, and answers the status: 0 with a hit, 1 without, 2 where the words are no
+/// command, 3 where the file is refused, 4 where the query is, 5 where the file can't be read, 6 where the
+/// output can't be written, 7 where memory is wanted.
+pub fn run<F: Files, O: Sink, E: Sink>(
+    alloc: Global,
+    words: &[String],
+    files: &mut F,
+    out: &mut O,
+    err: &mut E,
+) -> u8
+    ensures statuses { result ≤ 7 }
+
+    // When each status comes.
+    ensures usage { (result ≡ 2) ↔ IsNone (the_command (map string_bytes words.now)) }
+    ensures decided { IsDecided result → IfSome (the_command (map string_bytes words.now)) (λ command. EndsAsDue (F.files files.old) command result (O.written out.old) (O.written out.new) (E.written err.old) (E.written err.new) (E.faults err.old) (E.faults err.new)) }
+    ensures read_fault { result ≡ 5 → IfSome (the_command (map string_bytes words.now)) (λ command. Rose (F.read_faults files.old command.file) (F.read_faults files.new command.file)) }
+    ensures write_fault { result ≡ 6 → Rose (O.faults out.old) (O.faults out.new) }
+
+    // What is written to the output besides.
+    ensures short { result ≡ 6 → IfSome (the_command (map string_bytes words.now)) (λ command. EndsShort (F.files files.old) command (O.written out.old) (O.written out.new)) }
+    ensures nothing { IsRefused result → O.written out.new ≡ O.written out.old }
+
+    // What is written to standard error besides.
+    ensures quiet { IsAnswered result → E.written err.new ≡ E.written err.old }
+    ensures says_usage { result ≡ 2 → Says (E.written err.old) (E.written err.new) (E.faults err.old) (E.faults err.new) usage_line }
+    ensures says_file { result ≡ 5 → IfSome (the_command (map string_bytes words.now)) (λ command. Says (E.written err.old) (E.written err.new) (E.faults err.old) (E.faults err.new) (not_read_line command.file)) }
+    ensures says_output { result ≡ 6 → Says (E.written err.old) (E.written err.new) (E.faults err.old) (E.faults err.new) not_written_line }
+    ensures says_memory { result ≡ 7 → Says (E.written err.old) (E.written err.new) (E.faults err.old) (E.faults err.new) no_memory_line }
+
+    // What stays.
+    ensures kept { F.files files.new ≡ F.files files.old }
+    ensures counts { NoneFell (F.read_faults files.old) (F.read_faults files.new) }
+{
+    let Some(command) = command_of(words) else {
+        lines::usage(err);
+        return 2;
+    };
+    match search(alloc, command, files) {
+        Ok(report) => print(&report, out, err),
+        Err(refusal) => refuse(err, command, refusal),
+    }
+}
