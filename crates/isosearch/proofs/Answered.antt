@@ -1,17 +1,15 @@
 -- What a search finds or refuses is due.
-use Rattle.std.proofs.Common.{◌≡◌, ℕ, suc, ◌+◌, ◌≤◌, ◌<◌, ◌==◌, List, [], ◌∷◌, length, refl, sym, ap, ◌∙◌, subst, arith}
-use Rattle.std.specs.Prelude.{Result, Ok, Err, IfOk, IfErr, IsErrOf, Option, Some, None, if◌then◌else◌}
+use Rattle.std.proofs.Common.{◌≡◌, ℕ, ◌≤◌, ◌<◌, ◌==◌, List, [], ◌∷◌, length, refl, sym, ap, ◌∙◌, subst, arith}
+use Rattle.std.specs.Prelude.{Result, Ok, Err, IfOk, IfErr, Option, if◌then◌else◌}
 use Rattle.std.proofs.lemmas.Bool.Decides.{nat_tests}
 use Rattle.sig_base.specs.FileMap.{FileMap}
-use Rattle.sig_base.specs.Reading.{Holds, HoldsMore}
-use Rattle.sml_lexer.specs.declared.line_col.LineCol.{LineCol}
+use Rattle.sig_base.specs.Reading.{Holds}
 use Rattle.type_core.specs.InitialNames.{initial_names}
 use Rattle.type_core.specs.declared.member.Member.{Member}
-use Rattle.isosearch.specs.Ending.{Answers, Finds, IsDecided, Refuses, outcome_of, refused, reported}
+use Rattle.isosearch.specs.Ending.{Answers, Finds, IsDecided, Refuses, reported}
 use Rattle.isosearch.specs.Library.{IsLibrary}
-use Rattle.isosearch.specs.Lines.{not_built, query_name, refusal_at}
-use Rattle.isosearch.specs.Outcome.{Due, Outcome, bad_file, bad_query, found, long_file, long_query, source_limit, status_of}
-use Rattle.isosearch.specs.Refusals.{IsAt, SearchFails}
+use Rattle.isosearch.specs.Outcome.{Due, Outcome, bad_file, bad_query, found, long_query, source_limit, status_of}
+use Rattle.isosearch.specs.Refusals.{SearchFails}
 use Rattle.isosearch.specs.Report.{report}
 use Rattle.isosearch.specs.Words.{Command}
 use Rattle.isosearch.specs.declared.report.Report.{Report}

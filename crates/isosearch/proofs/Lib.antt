@@ -1,5 +1,8 @@
 pub mod Answered
 pub mod Digits
+pub mod DueEnds
+pub mod DueOne
+pub mod DueSources
 pub mod ElaborationArrows
 pub mod ElaborationPlaces
 pub mod ElaborationTokens

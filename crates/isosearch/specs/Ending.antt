@@ -1,5 +1,5 @@
 -- How a run ends.
-use Rattle.std.specs.Prelude.{◌≡◌, ◌⊎◌, ℕ, ◌≤◌, ◌==◌, List, [], length, Option, if◌then◌else◌}
+use Rattle.std.specs.Prelude.{◌≡◌, ◌⊎◌, ℕ, ◌≤◌, ◌==◌, List, [], length, Option, Some, IfSome, if◌then◌else◌}
 use Rattle.std.specs.Io.KnownBytes.{Appends}
 use Rattle.sig_base.specs.FileMap.{FileMap}
 use Rattle.sig_base.specs.Writing.{AppendsPart}
@@ -49,6 +49,10 @@ outcome_of command refusal.NoMemory = refused 7 no_memory_line
 abbrev pub IsDecided : ℕ → Type 0
 IsDecided status = (status ≡ 0) ⊎ ((status ≡ 1) ⊎ ((status ≡ 3) ⊎ (status ≡ 4)))
 
+-- a fault or want of memory ended the run
+abbrev pub IsCutShort : ℕ → Type 0
+IsCutShort status = (status ≡ 5) ⊎ ((status ≡ 6) ⊎ (status ≡ 7))
+
 -- a report was written
 abbrev pub IsAnswered : ℕ → Type 0
 IsAnswered status = (status ≡ 0) ⊎ (status ≡ 1)
@@ -61,13 +65,27 @@ IsRefused status = (status ≡ 2) ⊎ ((status ≡ 3) ⊎ ((status ≡ 4) ⊎ ((
 abbrev pub Refuses : Option FileMap → Command → Refusal → Type 0
 Refuses told command r = IsDecided (outcome_of command r).status → Due told command (outcome_of command r)
 
--- the outcome that is due: its status, its bytes added to the output, and its line said
-pub record EndsAsDue (told : Option FileMap) (command : Command) (status : ℕ) (out_before out_now err_before err_now : Option (List ℕ)) (count later : ℕ) : Type 0 where
-  pub outcome : Outcome
-  pub due : Due told command outcome
+-- the outcome: its status, its bytes added to the output, and its line said
+pub record EndsWith (outcome : Outcome) (status : ℕ) (out_before out_now err_before err_now : Option (List ℕ)) (count later : ℕ) : Type 0 where
   pub status_is : status ≡ outcome.status
   pub written : Appends out_before out_now outcome.out
   pub said : Says err_before err_now count later outcome.err
+
+-- an outcome that is due, with which the run ended
+pub record EndsAsDue (told : Option FileMap) (command : Command) (status : ℕ) (out_before out_now err_before err_now : Option (List ℕ)) (count later : ℕ) : Type 0 where
+  pub outcome : Outcome
+  pub due : Due told command outcome
+  pub ends : EndsWith outcome status out_before out_now err_before err_now count later
+
+-- where the files are told, each outcome that is due is the one with which the run ends
+abbrev pub EndsExactly : Option FileMap → Command → ℕ → Option (List ℕ) → Option (List ℕ) → Option (List ℕ) → Option (List ℕ) → ℕ → ℕ → Type 0
+EndsExactly told command status out_before out_now err_before err_now count later =
+    IfSome told (λ files. (outcome : Outcome) → Due (Some files) command outcome → EndsWith outcome status out_before out_now err_before err_now count later)
+
+-- where the files are told and a report is due, the status is the due one and exactly the due bytes were added to the output, or memory was wanted
+abbrev pub Completes : Option FileMap → Command → ℕ → Option (List ℕ) → Option (List ℕ) → Type 0
+Completes told command status before now =
+    IfSome told (λ files. (outcome : Outcome) → Due (Some files) command outcome → IsAnswered outcome.status → ((status ≡ outcome.status) × Appends before now outcome.out) ⊎ (status ≡ 7))
 
 -- a report is due, and a proper part of it was added to the output
 pub record EndsShort (told : Option FileMap) (command : Command) (before now : Option (List ℕ)) : Type 0 where

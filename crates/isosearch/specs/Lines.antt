@@ -1,5 +1,5 @@
 -- The lines for standard error.
-use Rattle.std.specs.Prelude.{◌⊎◌, ℕ, ◌<◌, List, [], ◌∷◌, ◌++◌, Option, codes, decimal}
+use Rattle.std.specs.Prelude.{◌⊎◌, ℕ, List, ◌++◌, Option, codes, decimal}
 use Rattle.std.specs.Io.KnownBytes.{Appends}
 use Rattle.sig_base.specs.Faults.{Rose}
 use Rattle.sig_base.specs.Writing.{AppendsPart}

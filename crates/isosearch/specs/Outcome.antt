@@ -1,10 +1,8 @@
 -- What is due for a command over files that are told, or over any bytes where they aren't.
-use Rattle.std.specs.Prelude.{◌≡◌, ◌⊎◌, ℕ, ◌<◌, ◌≤◌, List, [], ◌∷◌, length, Option, Some, None}
+use Rattle.std.specs.Prelude.{◌≡◌, ℕ, ◌<◌, ◌≤◌, List, [], ◌∷◌, length, Option, Some, None}
 use Rattle.std.specs.FinMap.{get}
-use Rattle.std.specs.Io.KnownBytes.{Appends}
 use Rattle.sig_base.specs.FileMap.{FileMap}
 use Rattle.sig_base.specs.Reading.{Holds, HoldsMore}
-use Rattle.sig_base.specs.Writing.{AppendsPart}
 use Rattle.type_core.specs.declared.member.Member.{Member}
 use Rattle.type_core.specs.declared.ty.Scheme.{Scheme}
 use Rattle.type_core.specs.InitialNames.{initial_names}

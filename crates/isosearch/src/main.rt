@@ -3,6 +3,7 @@
 
 mod decimal;
 mod elaborate;
+mod laws;
 mod library;
 mod lines;
 mod query;
@@ -10,6 +11,8 @@ mod report;
 mod run;
 mod source;
 mod source_file;
+#[cfg(test)]
+mod tests;
 mod texts;
 mod variables;
 mod words;

@@ -3,7 +3,7 @@ ghost use Rattle.std.specs.Prelude.{◌≡◌, ◌↔◌, ◌⊎◌, ◌≤◌, 
 ghost use Rattle.std.specs.Io.KnownBytes.{Appends};
 ghost use Rattle.sig_base.specs.Faults.{NoneFell, Rose};
 ghost use Rattle.sig_base.specs.Writing.{AppendsPart};
-ghost use Rattle.isosearch.specs.Ending.{Answers, EndsAsDue, EndsShort, Finds, IsAnswered, IsDecided, IsRefused, IsReport, Refuses, outcome_of, reported};
+ghost use Rattle.isosearch.specs.Ending.{Answers, Completes, EndsAsDue, EndsExactly, EndsShort, Finds, IsAnswered, IsCutShort, IsDecided, IsRefused, IsReport, Refuses, outcome_of, reported};
 ghost use Rattle.isosearch.specs.Library.{AreSchemes};
 ghost use Rattle.isosearch.specs.Lines.{Says, no_memory_line, not_read_line, not_written_line, usage_line};
 ghost use Rattle.isosearch.specs.Outcome.{Due};
@@ -167,6 +167,8 @@ pub fn run<F: Files, O: Sink, E: Sink>(
     // When each status comes.
     ensures usage { (result ≡ 2) ↔ IsNone (the_command (map string_bytes words.now)) }
     ensures decided { IsDecided result → IfSome (the_command (map string_bytes words.now)) (λ command. EndsAsDue (F.files files.old) command result (O.written out.old) (O.written out.new) (E.written err.old) (E.written err.new) (E.faults err.old) (E.faults err.new)) }
+    ensures exact { (IsCutShort result → ⊥) → IfSome (the_command (map string_bytes words.now)) (λ command. EndsExactly (F.files files.old) command result (O.written out.old) (O.written out.new) (E.written err.old) (E.written err.new) (E.faults err.old) (E.faults err.new)) }
+    ensures complete { IfSome (the_command (map string_bytes words.now)) (λ command. (Rose (F.read_faults files.old command.file) (F.read_faults files.new command.file) → ⊥) → (Rose (O.faults out.old) (O.faults out.new) → ⊥) → Completes (F.files files.old) command result (O.written out.old) (O.written out.new)) }
     ensures read_fault { result ≡ 5 → IfSome (the_command (map string_bytes words.now)) (λ command. Rose (F.read_faults files.old command.file) (F.read_faults files.new command.file)) }
     ensures write_fault { result ≡ 6 → Rose (O.faults out.old) (O.faults out.new) }
 

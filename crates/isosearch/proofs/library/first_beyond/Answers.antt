@@ -1,4 +1,4 @@
-use Rattle.isosearch.proofs.LibraryTypes.{passed_all, passed_beyond, passed_none, passed_one}
+use Rattle.isosearch.proofs.LibraryTypes.{passed_all, passed_beyond, passed_one}
 use Rattle.isosearch.proofs.library.first_beyond.Goals as goal
 
 pub returns-then-not-is_within_limits : goal.returns-then-not-is_within_limits
