@@ -13,7 +13,7 @@ use crate::script::Script;
 use crate::{Files, List, NoMemory, Trouble};
 use std::alloc::Global;
 
-/// Files whose bytes are kept in memory, and whose calls fail where they are told to.
+/// Files whose bytes are kept in memory. A call fails where it is told to, and at a path that no file has.
 #[derive(Drop)]
 pub struct MemFiles {
     files: List<MemFile>,

@@ -157,6 +157,8 @@ fn reads_files_of_the_system(rt: HostRuntime) -> Result<(), Fail> {
     let mut buf = [1u8; 4];
     assert_eq!(rt; files.read("/dev/zero", 9, &mut buf), Ok(4));
     assert_eq!(rt; buf, [0u8; 4]);
+    assert_eq!(rt; files.read("/proc/sys/kernel/ostype", 2, &mut buf), Ok(4));
+    assert_eq!(rt; &buf, b"nux\n");
     assert_eq!(rt; length_of(alloc, &mut files, "/dev/null", 9), Ok(0));
     assert_eq!(rt;
         length_of(alloc, &mut files, "/dev/zero", 9),

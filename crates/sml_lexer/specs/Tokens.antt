@@ -1,4 +1,4 @@
--- What the tokens of a text are: the Definition of Standard ML, sections 2.1 to 2.5 and 3.1.
+-- What the tokens of a text are: the Definition of Standard ML, sections 2.1 to 2.5 and 3.1, with numerals as the only special constants.
 use Rattle.std.specs.Prelude.{◌≡◌, ℕ, ◌+◌, ◌<◌, ◌≤◌, ◌⊎◌, List, [], ◌∷◌, length, slice_index, codes}
 use Rattle.std.specs.List.{between}
 use Rattle.sig_base.specs.Identifiers.{IsDigit, IsAlphanumericByte, IsSymbolicByte, OneThen, spelling, IsAlphanumeric, IsSymbolic}

@@ -1,8 +1,9 @@
 //! The tokens of Standard ML, with their places in a text.
 //!
-//! `lex` gives the tokens of a text as the Definition of Standard ML has them, each the longest at its
-//! place. At this stage it reads type variables, alphanumeric words and `( ) * : -> =`, and answers
-//! `NotBuilt` at the first byte where something else begins. `position` gives the line and the column
+//! The token grammar is that of signatures: the Definition of Standard ML's, with numerals as the only
+//! special constants. `lex` gives the tokens of a text, each the longest at its place. It reads type
+//! variables, alphanumeric words and `( ) * : -> =`, and answers `NotBuilt` at the first byte where
+//! something else begins. `position` gives the line and the column
 //! of a byte.
 #![tactic(auto)]
 

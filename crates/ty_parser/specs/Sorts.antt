@@ -7,7 +7,7 @@ use Rattle.sml_lexer.specs.declared.token.TokenKind.TheVariants as kind
 use Rattle.ty_parser.specs.declared.sort.Sort.{Sort}
 use Rattle.ty_parser.specs.declared.sort.Sort.TheVariants as s
 
--- the types of the initial basis that take no argument
+-- the names of types that every file may use and that take no argument
 abbrev pub is_base_name : List ℕ → Bool
 is_base_name text =
     bytes_eq text (codes "int") || bytes_eq text (codes "word") || bytes_eq text (codes "real") || bytes_eq text (codes "char") || bytes_eq text (codes "string")

@@ -12,8 +12,8 @@ pub enum Sort {
     Reserved(Word),
     /// A type variable.
     Variable,
-    /// The name of a type of the initial basis that takes no argument (the Definition of Standard ML,
-    /// appendix C).
+    /// The name of a type that every file may use and that takes no argument (the Definition of
+    /// Standard ML, appendix C, and the Basis Library).
     Base,
     /// The name `list`.
     List,

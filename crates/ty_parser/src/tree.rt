@@ -25,7 +25,7 @@ pub struct TypeAt {
 /// Why there is no tree.
 #[derive(Debug, Drop)]
 pub enum ParseRefusal {
-    /// The first so many tokens begin a type, and no more of them do. Where only the end is wrong, the
+    /// The first so many tokens begin a phrase, and no more of them do. Where only the end is wrong, the
     /// number is that of all tokens.
     NotBuilt(u32),
     NoMemory,
