@@ -8,7 +8,7 @@ use Rattle.type_core.specs.declared.member.Member.{Member}
 use Rattle.type_core.specs.declared.ty.Scheme.{Scheme}
 use Rattle.isosearch.specs.Library.{IsLibrary}
 use Rattle.isosearch.specs.Lines.{Says, no_memory_line, not_built, not_read_line, query_name, refusal_at, too_large, too_long_line}
-use Rattle.isosearch.specs.Outcome.{Due, Outcome, source_limit}
+use Rattle.isosearch.specs.Outcome.{Due, Outcome, refused, source_limit}
 use Rattle.isosearch.specs.Query.{IsQuery}
 use Rattle.isosearch.specs.Report.{Hits, report}
 use Rattle.isosearch.specs.Words.{Command}
@@ -31,10 +31,6 @@ Finds bytes query r = (members : List Member) × IsLibrary bytes members × Answ
 -- the outcome of a report
 abbrev pub reported : Report → Outcome
 reported r = record { status = if r.hits == 0 then 1 else 0; out = r.text; err = [] }
-
--- a status and a line, with nothing for the output
-abbrev pub refused : ℕ → List ℕ → Outcome
-refused status line = record { status = status; out = []; err = line }
 
 -- the outcome of a refusal
 abbrev pub outcome_of : Command → Refusal → Outcome

@@ -9,25 +9,31 @@ use Rattle.sml_lexer.specs.Places.{line_at, column_at}
 abbrev pub Says : Option (List ℕ) → Option (List ℕ) → ℕ → ℕ → List ℕ → Type 0
 Says before now count later line = Appends before now line ⊎ (Rose count later × AppendsPart before now line)
 
+-- the words are no command
 abbrev pub usage_line : List ℕ
 usage_line = codes "usage: isosearch list|same|iso|general|index|gen\n"
 
+-- memory was wanted
 abbrev pub no_memory_line : List ℕ
 no_memory_line = codes "out of memory\n"
 
+-- the output failed
 abbrev pub not_written_line : List ℕ
 not_written_line = codes "output: cannot be written\n"
 
+-- reading this file failed
 abbrev pub not_read_line : List ℕ → List ℕ
 not_read_line file = file ++ codes ": cannot be read\n"
 
+-- this file is longer than a source may be
 abbrev pub too_long_line : List ℕ → List ℕ
 too_long_line file = file ++ codes ": longer than 4194304 bytes\n"
 
--- what a refusal says
+-- what is refused isn't read yet
 abbrev pub not_built : List ℕ
 not_built = codes "not built yet"
 
+-- the query is longer than a source may be
 abbrev pub too_large : List ℕ
 too_large = codes "query is too large"
 

@@ -18,6 +18,10 @@ pub record Outcome : Type 0 where
   pub out : List ℕ
   pub err : List ℕ
 
+-- a status and a line, with nothing for the output
+abbrev pub refused : ℕ → List ℕ → Outcome
+refused status line = record { status = status; out = []; err = line }
+
 -- the greatest number of bytes in a file or a query
 abbrev pub source_limit : ℕ
 source_limit = 4194304
@@ -43,13 +47,13 @@ pub record IsSearch (told : Option FileMap) (command : Command) (members : List 
 
 -- the outcome that is due: the first refusal, of the file and then of the query, or the report
 pub data Due (told : Option FileMap) (command : Command) : Outcome → Type 0 where
-  no_file : IsMissing told command.file → Due told command (record { status = 5; out = []; err = not_read_line command.file })
-  long_file : HoldsMore told command.file source_limit → Due told command (record { status = 3; out = []; err = too_long_line command.file })
+  no_file : IsMissing told command.file → Due told command (refused 5 (not_read_line command.file))
+  long_file : HoldsMore told command.file source_limit → Due told command (refused 3 (too_long_line command.file))
   bad_file : {bytes : List ℕ} {place : ℕ} → Holds told command.file bytes → length bytes ≤ source_limit → FileRefusedAt bytes place
-      → Due told command (record { status = 3; out = []; err = refusal_line command.file bytes place not_built })
+      → Due told command (refused 3 (refusal_line command.file bytes place not_built))
   long_query : {bytes : List ℕ} {members : List Member} → Holds told command.file bytes → length bytes ≤ source_limit → IsLibrary bytes members → source_limit < length command.query
-      → Due told command (record { status = 4; out = []; err = refusal_line query_name command.query 0 too_large })
+      → Due told command (refused 4 (refusal_line query_name command.query 0 too_large))
   bad_query : {bytes : List ℕ} {members : List Member} {place : ℕ} → Holds told command.file bytes → length bytes ≤ source_limit → IsLibrary bytes members → length command.query ≤ source_limit
-      → QueryRefusedAt command.query place → Due told command (record { status = 4; out = []; err = refusal_line query_name command.query place not_built })
+      → QueryRefusedAt command.query place → Due told command (refused 4 (refusal_line query_name command.query place not_built))
   found : {members hits : List Member} {scheme : Scheme} → IsSearch told command members scheme → Hits scheme members hits
       → Due told command (record { status = status_of hits; out = report initial_names hits; err = [] })

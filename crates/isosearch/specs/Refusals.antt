@@ -11,10 +11,12 @@ use Rattle.isosearch.specs.declared.run.Refusal.{Refusal}
 use Rattle.isosearch.specs.declared.run.Refusal.TheVariants as refusal
 use Rattle.type_core.specs.declared.member.Member.{Member}
 
+-- a file of these bytes is refused at that byte
 abbrev pub FileRefuses : List ℕ → SourceRefusal → Type 0
 FileRefuses bytes (source.NotBuilt place) = FileRefusedAt bytes place × (place ≤ length bytes)
 FileRefuses bytes source.NoMemory = ⊤
 
+-- a query of these bytes is refused at that byte
 abbrev pub QueryRefuses : List ℕ → SourceRefusal → Type 0
 QueryRefuses bytes (source.NotBuilt place) = QueryRefusedAt bytes place × (place ≤ length bytes)
 QueryRefuses bytes source.NoMemory = ⊤

@@ -15,6 +15,7 @@ pub data Hits (query : Scheme) : List Member → List Member → Type 0 where
   hit : {member : Member} {members hits : List Member} → AreEqualUpToNames member.scheme query → Hits query members hits → Hits query (member ∷ members) (member ∷ hits)
   no_hit : {member : Member} {members hits : List Member} → (AreEqualUpToNames member.scheme query → ⊥) → Hits query members hits → Hits query (member ∷ members) hits
 
+-- the word for a kind of member
 abbrev pub kind_word : Kind → List ℕ
 kind_word kind.Val = codes "val"
 kind_word kind.Con = codes "con"

@@ -50,7 +50,7 @@ pub data Heading : List Numbered → List Numbered → ℕ → Type 0 where
 pub data File (texts : ℕ → List ℕ) : List Numbered → SourceFile → Type 0 where
   file : {i b : ℕ} {ts m : List Numbered} {values : List ValDesc} → Heading ts m i → Values texts m ((b, s.Reserved w.KwEnd) ∷ []) values → File texts ts (record { id = i; values = values })
 
--- tokens of these sorts and texts begin a file: there are further sorts and texts that make it one
+-- tokens of these sorts and texts begin a file: there are further sorts and texts that make it one, and a sort among them can have any text, since only identifiers of values are compared
 pub record Begins (texts : ℕ → List ℕ) (ss : List Sort) : Type 0 where
   pub more : List Sort
   pub further : ℕ → List ℕ

@@ -4,7 +4,7 @@ ghost use Rattle.isosearch.specs.Elaboration as spec;
 ghost use Rattle.isosearch.specs.Elaboration.{texts_of, first_places, type_of, scheme_of};
 ghost use Rattle.isosearch.specs.Sources.{texts};
 ghost use Rattle.isosearch.specs.Limits.{IsWithinLimits};
-ghost use Rattle.isosearch.specs.Measures.{applied_height, applied_size, arrows_height, arrows_size, expression_height, expression_size};
+ghost use Rattle.isosearch.specs.Measures.{arrows_height, arrows_size, expression_height, expression_size};
 ghost use Rattle.sml_lexer.specs.Tokens.{tokens as tokens_of};
 ghost use Rattle.type_core.specs.Lists.{greatest_of, sum_of};
 ghost use Rattle.type_core.specs.Schemes.{IsScheme};

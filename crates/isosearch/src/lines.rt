@@ -1,7 +1,7 @@
 // The lines for standard error. None of them takes memory.
-ghost use Rattle.std.specs.Prelude.{◌≡◌, ◌++◌, List, map, length};
+ghost use Rattle.std.specs.Prelude.{◌++◌, map};
 ghost use Rattle.std.specs.List.{concat};
-ghost use Rattle.isosearch.specs.Lines.{Says, usage_line, no_memory_line, not_written_line, not_read_line, too_long_line, refusal_at, query_name, not_built as not_built_text, too_large as too_large_text};
+ghost use Rattle.isosearch.specs.Lines.{Says, no_memory_line, not_built, not_read_line, not_written_line, query_name, refusal_at, too_large, too_long_line, usage_line};
 
 use crate::decimal::Decimal;
 use sig_base::{Sink, write_all};
@@ -65,8 +65,8 @@ pub fn too_long<E: Sink>(err: &mut E, file: &str)
     say_of(err, file, ": longer than 4194304 bytes\n");
 }
 
-/// A source is refused at a line and a column.
-pub fn refusal<E: Sink>(err: &mut E, name: &str, at: LineCol, text: &str)
+// A source is refused at a line and a column.
+fn refusal<E: Sink>(err: &mut E, name: &str, at: LineCol, text: &str)
     ensures { Says (E.written err.old) (E.written err.new) (E.faults err.old) (E.faults err.new) (refusal_at name.now at.line at.col text.now) }
 {
     let line = Decimal::of(at.line);
@@ -83,5 +83,31 @@ pub fn refusal<E: Sink>(err: &mut E, name: &str, at: LineCol, text: &str)
             text.as_bytes(),
             b"\n".as_slice(),
         ],
+    );
+}
+
+/// A file has what isn't read yet.
+pub fn file_not_built<E: Sink>(err: &mut E, file: &str, at: LineCol)
+    ensures { Says (E.written err.old) (E.written err.new) (E.faults err.old) (E.faults err.new) (refusal_at file.now at.line at.col not_built) }
+{
+    refusal(err, file, at, "not built yet");
+}
+
+/// The query has what isn't read yet.
+pub fn query_not_built<E: Sink>(err: &mut E, at: LineCol)
+    ensures { Says (E.written err.old) (E.written err.new) (E.faults err.old) (E.faults err.new) (refusal_at query_name at.line at.col not_built) }
+{
+    refusal(err, "query", at, "not built yet");
+}
+
+/// The query is longer than a source may be.
+pub fn query_too_large<E: Sink>(err: &mut E)
+    ensures { Says (E.written err.old) (E.written err.new) (E.faults err.old) (E.faults err.new) (refusal_at query_name 1 1 too_large) }
+{
+    refusal(
+        err,
+        "query",
+        LineCol { line: 1, col: 1 },
+        "query is too large",
     );
 }

@@ -1,5 +1,5 @@
 // The report of a search.
-ghost use Rattle.std.specs.Prelude.{◌≡◌, ◌++◌, List, length, codes, IfOk, OnOk};
+ghost use Rattle.std.specs.Prelude.{◌≡◌, ◌++◌, List, length, IfOk, OnOk};
 ghost use Rattle.type_core.specs.Schemes.{IsScheme};
 ghost use Rattle.isosearch.specs.Report.{Hits, kind_word as the_kind_word, member_line, report as report_text};
 ghost use Rattle.isosearch.specs.Library.{AreSchemes};

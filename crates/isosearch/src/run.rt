@@ -1,5 +1,5 @@
 // The command, over any files and sinks.
-ghost use Rattle.std.specs.Prelude.{◌≡◌, ◌↔◌, ◌⊎◌, ◌≤◌, ℕ, List, length, map, string_bytes, IfOk, IfErr, IfSome, IsErrOf, IsNone};
+ghost use Rattle.std.specs.Prelude.{◌≡◌, ◌↔◌, ◌⊎◌, ◌≤◌, length, map, string_bytes, IfOk, IfErr, IfSome, IsErrOf, IsNone};
 ghost use Rattle.std.specs.Io.KnownBytes.{Appends};
 ghost use Rattle.sig_base.specs.Faults.{NoneFell, Rose};
 ghost use Rattle.sig_base.specs.Writing.{AppendsPart};
@@ -112,20 +112,15 @@ fn refuse<E: Sink>(err: &mut E, command: Command<'_>, refusal: Refusal) -> u8
             3
         }
         Refusal::File(at) => {
-            lines::refusal(err, command.file, at, "not built yet");
+            lines::file_not_built(err, command.file, at);
             3
         }
         Refusal::Query(at) => {
-            lines::refusal(err, "query", at, "not built yet");
+            lines::query_not_built(err, at);
             4
         }
         Refusal::QueryTooLarge => {
-            lines::refusal(
-                err,
-                "query",
-                LineCol { line: 1, col: 1 },
-                "query is too large",
-            );
+            lines::query_too_large(err);
             4
         }
         Refusal::NoMemory => {

@@ -1,5 +1,5 @@
 // Sets of texts.
-ghost use Rattle.std.specs.Prelude.{◌≡◌, ◌↔◌, ℕ, List, Bool, false, true, ◌||◌, IsTrue, IfOk, OnOk, bytes_eq};
+ghost use Rattle.std.specs.Prelude.{◌≡◌, ◌↔◌, ℕ, List, false, ◌||◌, IsTrue, IfOk, OnOk, bytes_eq};
 ghost use Rattle.isosearch.specs.Texts.{has};
 
 use sig_base::NoMemory;
