@@ -2,21 +2,19 @@
 use Rattle.std.proofs.Common.{◌≡◌, ℕ, ◌+◌, ◌<◌, false, ◌||◌, List, [], ◌∷◌, ◌++◌, length, get_or, take, Option, Some, None, refl, ap, sym, ◌∙◌, subst, arith}
 use Rattle.std.specs.Prelude.{OnSome, option_and_then, bytes_eq}
 use Rattle.std.specs.List.{enumerate_from}
-use Rattle.std.specs.Option.{option_map_or}
 use Rattle.std.proofs.Math.Bool.{or_comm}
 use Rattle.std.proofs.Math.Seq.{take-length}
 use Rattle.std.proofs.lemmas.List.{take_more, length-take-le, length-map}
 use Rattle.std.proofs.lemmas.List.Folds.{list_any-append}
-use Rattle.std.proofs.lemmas.Option.{slice_get-get_or}
 use Rattle.sml_lexer.specs.declared.token.Token.{Token}
-use Rattle.sml_lexer.specs.Tokens.{text_of}
+use Rattle.isosearch.specs.Elaboration.{text_of, texts_of}
 use Rattle.ty_parser.specs.declared.sort.Sort.{Sort}
 use Rattle.ty_parser.specs.declared.sort.Sort.TheVariants as s
 use Rattle.ty_parser.specs.Sorts.{sort_of, sorts_of}
 use Rattle.ty_parser.proofs.Runs.{of_some}
 use Rattle.isosearch.specs.declared.source_file.SourceFile.{SourceFile}
 use Rattle.isosearch.specs.declared.texts.Texts.{Texts}
-use Rattle.isosearch.specs.SourceFile.{ids_of, is_among, File, text_numbered, IsSourceFile, FileStopsAt}
+use Rattle.isosearch.specs.SourceFile.{ids_of, is_among, File, IsSourceFile, FileStopsAt}
 use Rattle.isosearch.specs.SourceMachine.{State, Start, AfterSignature, AfterName, AfterEqual, InBody, AfterVal, AfterId, InType, Ended, ids_in, is_met_after, step_if, step, run, finish}
 use Rattle.isosearch.specs.Texts.{has}
 use Rattle.isosearch.proofs.SourceComplete.{parse, parse_complete}
@@ -26,8 +24,8 @@ use Rattle.isosearch.proofs.SourceStops.{file_begins}
 
 -- the first so many tokens have led to the state, and the set has the texts of the identifiers that were met
 pub record ReadTo (bytes : List ℕ) (tokens : List Token) (i : ℕ) (st : State) (texts : Texts) : Type 0 where
-  pub reads_is : reads (text_numbered bytes tokens) (take i (sorts_of bytes tokens)) ≡ Some st
-  pub met : (text : List ℕ) → has texts text ≡ is_among (text_numbered bytes tokens) (ids_in st) text
+  pub reads_is : reads (text_of (texts_of bytes tokens)) (take i (sorts_of bytes tokens)) ≡ Some st
+  pub met : (text : List ℕ) → has texts text ≡ is_among (text_of (texts_of bytes tokens)) (ids_in st) text
 
 pub on_some : {A : Type 0} (P : Type 0) (o : Option A) (a : A) → o ≡ Some a → OnSome o P → P
 on_some P o a e h = subst (λ o. OnSome o P) e h
@@ -44,13 +42,8 @@ among_after texts (AfterId f v) i text = refl
 among_after texts (InType p st) i text = refl
 among_after texts (Ended f) i text = refl
 
-module _ (bytes : List ℕ) (tokens : List Token) (i : ℕ) (lt : i < length tokens) where
-  -- the text of the token there
-  pub text_is : (d : Token) (text : List ℕ) → text ≡ text_of bytes (get_or tokens i d) → text ≡ text_numbered bytes tokens i
-  text_is d text is = is ∙ sym (ap (λ o. option_map_or (text_of bytes) o []) (slice_get-get_or tokens i d lt))
-
 module _ (bytes : List ℕ) (tokens : List Token) (i : ℕ) (so : Sort) (text : List ℕ) (st : State) (texts : Texts)
-    (in_range : i < length tokens) (sort_is : so ≡ get_or (sorts_of bytes tokens) i s.Variable) (text_is : text ≡ text_numbered bytes tokens i) (to : ReadTo bytes tokens i st texts) where
+    (in_range : i < length tokens) (sort_is : so ≡ get_or (sorts_of bytes tokens) i s.Variable) (text_is : text ≡ text_of (texts_of bytes tokens) i) (to : ReadTo bytes tokens i st texts) where
   ss : List Sort
   ss = sorts_of bytes tokens
 
@@ -61,16 +54,16 @@ module _ (bytes : List ℕ) (tokens : List Token) (i : ℕ) (so : Sort) (text : 
   front_more = take_more (sorts_of bytes tokens) i s.Variable within ∙ ap (λ x. take i (sorts_of bytes tokens) ++ x ∷ []) (sym sort_is)
 
   -- the set tells whether the token's text was met
-  met_is : has texts text ≡ is_among (text_numbered bytes tokens) (ids_in st) (text_numbered bytes tokens i)
-  met_is = to.met text ∙ ap (is_among (text_numbered bytes tokens) (ids_in st)) text_is
+  met_is : has texts text ≡ is_among (text_of (texts_of bytes tokens)) (ids_in st) (text_of (texts_of bytes tokens) i)
+  met_is = to.met text ∙ ap (is_among (text_of (texts_of bytes tokens)) (ids_in st)) text_is
 
   last : (o : Option State) → option_and_then (λ st'. Some st') o ≡ o
   last None = refl
   last (Some st') = refl
 
-  reads_more : reads (text_numbered bytes tokens) (take (i + 1) (sorts_of bytes tokens)) ≡ step_if (has texts text) st (i, so)
+  reads_more : reads (text_of (texts_of bytes tokens)) (take (i + 1) (sorts_of bytes tokens)) ≡ step_if (has texts text) st (i, so)
   reads_more =
-      let all = text_numbered bytes tokens in
+      let all = text_of (texts_of bytes tokens) in
       let len : 0 + length (take i (sorts_of bytes tokens)) ≡ i = omega (arith, length-take-le i (sorts_of bytes tokens) (omega (arith, within))) in
       ap (reads all) front_more ∙ reads-append all (take i (sorts_of bytes tokens)) (so ∷ [])
       ∙ ap (λ n. option_and_then (λ st'. run all st' (enumerate_from n (so ∷ []))) (reads all (take i (sorts_of bytes tokens)))) len
@@ -82,7 +75,7 @@ module _ (bytes : List ℕ) (tokens : List Token) (i : ℕ) (so : Sort) (text : 
   step_read st' texts' e added = record {
     reads_is = reads_more ∙ e;
     met = λ other.
-        let all = text_numbered bytes tokens in
+        let all = text_of (texts_of bytes tokens) in
         let ids : ids_in st' ≡ ids_after st i = of_some (λ st'. ids_in st' ≡ ids_after st i) _ st' e (step_ids (has texts text) st (i, so)) in
         added other ∙ (λ k. is_met_after st (bytes_eq other (text_is k)) (to.met other k)) ∙ sym (among_after all st i other) ∙ ap (λ ids. is_among all ids other) (sym ids);
   }
@@ -96,10 +89,10 @@ module _ (bytes : List ℕ) (tokens : List Token) (i : ℕ) (so : Sort) (text : 
   }
 
 module _ (bytes : List ℕ) (tokens : List Token) (i : ℕ) (st : State) (texts : Texts) (at_end : i ≡ length tokens) (to : ReadTo bytes tokens i st texts) where
-  all_read : reads (text_numbered bytes tokens) (sorts_of bytes tokens) ≡ Some st
+  all_read : reads (text_of (texts_of bytes tokens)) (sorts_of bytes tokens) ≡ Some st
   all_read =
       let all : i ≡ length (sorts_of bytes tokens) = omega (arith, at_end, length-map tokens (sort_of bytes)) in
-      ap (reads (text_numbered bytes tokens)) (sym (ap (λ n. take n (sorts_of bytes tokens)) all ∙ take-length (sorts_of bytes tokens))) ∙ to.reads_is
+      ap (reads (text_of (texts_of bytes tokens))) (sym (ap (λ n. take n (sorts_of bytes tokens)) all ∙ take-length (sorts_of bytes tokens))) ∙ to.reads_is
 
   pub end_stops : finish st ≡ None → FileStopsAt bytes tokens i
   end_stops e = record {
@@ -107,12 +100,12 @@ module _ (bytes : List ℕ) (tokens : List Token) (i : ℕ) (st : State) (texts 
     front = begins _ _ st to.reads_is;
     next = λ lt. absurd (omega (arith, at_end, lt));
     no_file = λ f d.
-        let none : parse (text_numbered bytes tokens) Start (enumerate_from 0 (sorts_of bytes tokens)) ≡ None = ap (option_and_then finish) all_read ∙ e in
-        let some = parse_complete (text_numbered bytes tokens) d in
+        let none : parse (text_of (texts_of bytes tokens)) Start (enumerate_from 0 (sorts_of bytes tokens)) ≡ None = ap (option_and_then finish) all_read ∙ e in
+        let some = parse_complete (text_of (texts_of bytes tokens)) d in
         cc;
   }
 
   pub end_found : (f : SourceFile) → finish st ≡ Some f → IsSourceFile bytes tokens f
   end_found f e =
       let ts = enumerate_from 0 (sorts_of bytes tokens) in
-      of_some (File (text_numbered bytes tokens) ts) _ f (ap (option_and_then finish) all_read ∙ e) (parse_sound (text_numbered bytes tokens) ts)
+      of_some (File (text_of (texts_of bytes tokens)) ts) _ f (ap (option_and_then finish) all_read ∙ e) (parse_sound (text_of (texts_of bytes tokens)) ts)

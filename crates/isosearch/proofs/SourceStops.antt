@@ -6,7 +6,8 @@ use Rattle.sml_lexer.specs.declared.token.Token.{Token}
 use Rattle.ty_parser.specs.declared.sort.Sort.{Sort}
 use Rattle.ty_parser.specs.Sorts.{sorts_of}
 use Rattle.isosearch.specs.declared.source_file.SourceFile.{SourceFile}
-use Rattle.isosearch.specs.SourceFile.{File, Begins, text_numbered, IsSourceFile, FileStopsAt}
+use Rattle.isosearch.specs.Elaboration.{text_of, texts_of}
+use Rattle.isosearch.specs.SourceFile.{File, Begins, IsSourceFile, FileStopsAt}
 use Rattle.isosearch.proofs.SourceComplete as complete
 
 -- what goes on to a file begins one
@@ -35,7 +36,7 @@ file_begins texts ss k f d =
 no_earlier : (bytes : List ℕ) (tokens : List Token) (j k : ℕ) → FileStopsAt bytes tokens j → FileStopsAt bytes tokens k → j < k → ⊥
 no_earlier bytes tokens j k first second lt =
     let within = second.within in
-    first.next (omega (arith, lt, within)) (begins_fewer (text_numbered bytes tokens) (sorts_of bytes tokens) (j + 1) k (omega (arith, lt)) second.front)
+    first.next (omega (arith, lt, within)) (begins_fewer (text_of (texts_of bytes tokens)) (sorts_of bytes tokens) (j + 1) k (omega (arith, lt)) second.front)
 
 -- the tokens of a text stop being a file at one place
 pub one_stop : (bytes : List ℕ) (tokens : List Token) (j k : ℕ) → FileStopsAt bytes tokens j → FileStopsAt bytes tokens k → j ≡ k
@@ -46,7 +47,7 @@ one_stop bytes tokens j k first second =
 
 -- the tokens of a text are at most one file
 pub one_file : (bytes : List ℕ) (tokens : List Token) (f g : SourceFile) → IsSourceFile bytes tokens f → IsSourceFile bytes tokens g → f ≡ g
-one_file bytes tokens f g d h = complete.one_file (text_numbered bytes tokens) d h
+one_file bytes tokens f g d h = complete.one_file (text_of (texts_of bytes tokens)) d h
 
 -- the tokens of a file stop nowhere
 pub file_stops_not : (bytes : List ℕ) (tokens : List Token) (f : SourceFile) (k : ℕ) → IsSourceFile bytes tokens f → FileStopsAt bytes tokens k → ⊥

@@ -1,10 +1,8 @@
 -- What a signature file is: the Definition of Standard ML, sections 2.4 and 3.4, with value descriptions alone.
 use Rattle.std.specs.Prelude.{◌≡◌, ℕ, ◌+◌, ◌<◌, ◌≤◌, Bool, true, false, IsTrue, List, [], ◌∷◌, ◌++◌, length, take, map, bytes_eq}
-use Rattle.std.specs.List.{enumerate_from, list_any, slice_get}
-use Rattle.std.specs.Option.{option_map_or}
+use Rattle.std.specs.List.{enumerate_from, list_any}
 use Rattle.sig_base.specs.declared.word.Word.TheVariants as w
 use Rattle.sml_lexer.specs.declared.token.Token.{Token}
-use Rattle.sml_lexer.specs.Tokens.{text_of}
 use Rattle.ty_parser.specs.declared.sort.Sort.{Sort}
 use Rattle.ty_parser.specs.declared.sort.Sort.TheVariants as s
 use Rattle.ty_parser.specs.declared.tree.TyExp.{TyExp}
@@ -15,6 +13,7 @@ use Rattle.ty_parser.specs.Phrases.{most_open}
 use Rattle.ty_parser.specs.Sorts.{sorts_of}
 use Rattle.isosearch.specs.declared.source_file.SourceFile.{SourceFile}
 use Rattle.isosearch.specs.declared.source_file.ValDesc.{ValDesc}
+use Rattle.isosearch.specs.Elaboration.{text_of, texts_of}
 
 -- an alphanumeric identifier that is not reserved
 abbrev pub is_identifier : Sort → Bool
@@ -58,17 +57,13 @@ pub record Begins (texts : ℕ → List ℕ) (ss : List Sort) : Type 0 where
   pub whole : SourceFile
   pub is_file : File further (enumerate_from 0 (ss ++ more)) whole
 
--- the text of the token with a number, which is empty past the last
-abbrev pub text_numbered : List ℕ → List Token → ℕ → List ℕ
-text_numbered bytes tokens i = option_map_or (text_of bytes) (slice_get tokens i) []
-
 -- the tokens of a text are the file, all of them
 abbrev pub IsSourceFile : List ℕ → List Token → SourceFile → Type 0
-IsSourceFile bytes tokens f = File (text_numbered bytes tokens) (enumerate_from 0 (sorts_of bytes tokens)) f
+IsSourceFile bytes tokens f = File (text_of (texts_of bytes tokens)) (enumerate_from 0 (sorts_of bytes tokens)) f
 
 -- the first k tokens of a text begin a file
 abbrev pub BeginsFile : List ℕ → List Token → ℕ → Type 0
-BeginsFile bytes tokens k = Begins (text_numbered bytes tokens) (take k (sorts_of bytes tokens))
+BeginsFile bytes tokens k = Begins (text_of (texts_of bytes tokens)) (take k (sorts_of bytes tokens))
 
 -- the first k tokens begin a file and no more of them do: the next one cannot stand there, or the end is wrong
 pub record FileStopsAt (bytes : List ℕ) (tokens : List Token) (k : ℕ) : Type 0 where

@@ -1,7 +1,7 @@
 // The reader of signature files.
 ghost use Rattle.std.specs.Prelude.{◌≡◌, ℕ, ◌≤◌, ◌<◌, List, length, IfOk, IfErr, OnSome, bytes_eq};
 ghost use Rattle.std.specs.Option.{option_map};
-ghost use Rattle.sml_lexer.specs.Tokens.{text_of as token_text, tokens as tokens_of};
+ghost use Rattle.sml_lexer.specs.Tokens.{tokens as tokens_of};
 ghost use Rattle.ty_parser.specs.Machine as types;
 ghost use Rattle.isosearch.specs.SourceFile as spec;
 ghost use Rattle.isosearch.specs.SourceFile.{IsSourceFile, RefusesTokens};
@@ -10,6 +10,7 @@ ghost use Rattle.isosearch.specs.SourceMachine.{state_of};
 ghost use Rattle.isosearch.specs.Texts.{has};
 
 use crate::texts::Texts;
+use crate::variables::text_of;
 use sig_base::{List, NoMemory, Word};
 use sml_lexer::Token;
 use std::alloc::Global;
@@ -247,14 +248,6 @@ fn finish(stage: Stage) -> Option<SourceFile>
     }
 }
 
-fn text_of(bytes: &[u8], token: Token) -> &[u8]
-    requires order { token.span.start ≤ token.span.end }
-    requires within { token.span.end ≤ length bytes.now }
-    ensures { result.now ≡ token_text bytes.now token }
-{
-    &bytes[token.span.start as usize..token.span.end as usize]
-}
-
 /// The file that the tokens are, all of them: they are what `lex` gave for the bytes (the Definition of
 /// Standard ML, sections 2.4 and 3.4, as specs/SourceFile.antt has it). Its identifiers are alphanumeric
 /// and not reserved, and no two values have the same. `NotBuilt` comes exactly where the first so many
@@ -270,9 +263,8 @@ pub fn parse_file(alloc: Global, bytes: &[u8], tokens: &[Token]) -> Result<Sourc
     let mut stage = Stage::Start;
     let mut place: u32 = 0;
     'tokens: while (place as usize) < tokens.len() {
-        let token = tokens[place as usize];
-        let sort = sort_of(bytes, token);
-        let text = text_of(bytes, token);
+        let sort = sort_of(bytes, tokens[place as usize]);
+        let text = text_of(bytes, tokens, place as usize);
         match next(alloc, &mut texts, stage, place, sort, text)? {
             None => return Err(ParseRefusal::NotBuilt(place)),
             Some(further) => stage = further,

@@ -2,7 +2,8 @@ use Rattle.std.proofs.Common.{sym, ap, ◌∙◌, arith}
 use Rattle.std.specs.Option.{option_map}
 use Rattle.ty_parser.proofs.Tokens.{token_within, token_order, length-Reads, sort_is}
 use Rattle.isosearch.specs.SourceMachine.{state_of}
-use Rattle.isosearch.proofs.SourceReading.{on_some, text_is, step_read, step_stops, end_stops, end_found}
+use Rattle.isosearch.proofs.ElaborationTokens.{tokens_within}
+use Rattle.isosearch.proofs.SourceReading.{on_some, step_read, step_stops, end_stops, end_found}
 use Rattle.isosearch.proofs.source_file.parse_file.Goals as goal
 
 pub sort_of-sort-requires-clause-order : goal.sort_of-sort-requires-clause-order
@@ -11,11 +12,8 @@ sort_of-sort-requires-clause-order c = token_order _ _ _ _ _ _ c.requires.tokens
 pub sort_of-sort-requires-clause-within : goal.sort_of-sort-requires-clause-within
 sort_of-sort-requires-clause-within c = (token_within _ _ _ _ _ _ c.requires.tokens c.tokens-test.true).token.0.within
 
-pub text_of-text-requires-clause-order : goal.text_of-text-requires-clause-order
-text_of-text-requires-clause-order c = token_order _ _ _ _ _ _ c.requires.tokens c.tokens-test.true
-
-pub text_of-text-requires-clause-within : goal.text_of-text-requires-clause-within
-text_of-text-requires-clause-within c = (token_within _ _ _ _ _ _ c.requires.tokens c.tokens-test.true).token.0.within
+pub text_of-text-requires : goal.text_of-text-requires
+text_of-text-requires c = record { within = tokens_within _ _ c.requires.tokens }
 
 pub next-requires : goal.next-requires
 next-requires c =
@@ -25,7 +23,7 @@ next-requires c =
 pub returns-in-None : goal.returns-in-None
 returns-in-None c = record {
   file = tt;
-  refusal = step_stops _ _ _ _ _ _ _ c.tokens-test.true (sort_is _ _ _ c.tokens-test.true _ _ c.sort_of-sort.ensures.value) (text_is _ _ _ c.tokens-test.true _ _ c.text_of-text.ensures) c.tokens.invariant.read
+  refusal = step_stops _ _ _ _ _ _ _ c.tokens-test.true (sort_is _ _ _ c.tokens-test.true _ _ c.sort_of-sort.ensures.value) c.text_of-text.ensures.value c.tokens.invariant.read
       (sym c.in_ok-next.ensures.value ∙ ap (option_map state_of) c.in-None.is);
 }
 
@@ -37,7 +35,7 @@ overflow_add-place c =
 pub tokens-preserved : goal.tokens-preserved
 tokens-preserved c = record {
   within = omega (arith, c.tokens-test.true);
-  read = step_read _ _ _ _ _ _ _ c.tokens-test.true (sort_is _ _ _ c.tokens-test.true _ _ c.sort_of-sort.ensures.value) (text_is _ _ _ c.tokens-test.true _ _ c.text_of-text.ensures) c.tokens.invariant.read _ _
+  read = step_read _ _ _ _ _ _ _ c.tokens-test.true (sort_is _ _ _ c.tokens-test.true _ _ c.sort_of-sort.ensures.value) c.text_of-text.ensures.value c.tokens.invariant.read _ _
       (sym c.in_ok-next.ensures.value ∙ ap (option_map state_of) c.in-Some.is) (on_some _ _ _ c.in-Some.is c.in_ok-next.ensures.texts);
 }
 
