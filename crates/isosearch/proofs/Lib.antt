@@ -12,6 +12,7 @@ pub mod LimitsArrows
 pub mod LimitsFusion
 pub mod LimitsHeights
 pub mod LimitsSizes
+pub mod LimitsVariables
 pub mod Saying
 pub mod SourceComplete
 pub mod SourceReading

@@ -8,16 +8,15 @@ use Rattle.type_core.specs.declared.ty.Scheme.{Scheme}
 use Rattle.type_core.specs.declared.ty.Ty.{Ty}
 use Rattle.type_core.specs.Renaming.{Renaming, renamed, IsOneToOne, KeepsMarks, AreEqualUpToNames}
 use Rattle.type_core.specs.Schemes.{IsScheme, closed, numbers, numbered_among}
-use Rattle.type_core.specs.Size.{size_of}
 use Rattle.type_core.specs.Variables.{variables, meet_all, by_first_occurrence}
 use Rattle.type_core.proofs.Places.{Within, nothing_within, variable_eq, meet_all_within, meet_all_length, all_met, meet_all_after, place_after, place_tells, place_is_number, numbered_in_order}
-use Rattle.type_core.proofs.Renamed.{variables_renamed, renamed_alike, renamed_renamed, renamed_kept, variables_bounded}
+use Rattle.type_core.proofs.Renamed.{variables_renamed, renamed_alike, renamed_renamed, renamed_kept}
 
 scheme_eq : (a b : Scheme) → a.vars ≡ b.vars → a.body ≡ b.body → a ≡ b
 scheme_eq a b e f = λ i. record { vars = e i; body = f i }
 
-pub variables_fit : (t : Ty) → length (by_first_occurrence t) ≤ size_of t
-variables_fit t = omega (arith, meet_all_length [] (variables t), variables_bounded t)
+variables_fit : (t : Ty) → length (by_first_occurrence t) ≤ length (variables t)
+variables_fit t = omega (arith, meet_all_length [] (variables t))
 
 -- those that are met are variables of the type
 met_occur : (t : Ty) → Within (variables t) (by_first_occurrence t)
@@ -60,7 +59,7 @@ equal_where_renamed a b p q e =
 pub renamed_where_equal : (a b : Scheme) → a.body ≡ b.body → AreEqualUpToNames a b
 renamed_where_equal a b e = (λ v. v, record { one_to_one = λ v w o p h. h; keeps_marks = λ v o. refl; makes = renamed_kept a.body ∙ e })
 
-pub met_fit : (t : Ty) (met : List VarId) → met ≡ by_first_occurrence t → size_of t < 2 ^ 32 → length met < 2 ^ 32
+pub met_fit : (t : Ty) (met : List VarId) → met ≡ by_first_occurrence t → length (variables t) < 2 ^ 32 → length met < 2 ^ 32
 met_fit t met e l = omega (arith, ap length e, variables_fit t, l)
 
 pub numbered_is_scheme : (t body : Ty) (met : List VarId) (n : ℕ) → met ≡ by_first_occurrence t → body ≡ renamed (numbered_among met) t → n ≡ length met

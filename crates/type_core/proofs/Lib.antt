@@ -1,7 +1,14 @@
 pub mod Continued
 pub mod Meeting
+pub mod NormalSizes
+pub mod LabelValues
+pub mod LabelOrder
 pub mod Places
 pub mod Renamed
 pub mod Closed
 pub mod Pushing
+pub mod SchemeVariables
 pub mod Trees
+pub mod TypeTests
+pub mod EachVariable
+pub mod EqualTypesDecide

@@ -56,10 +56,10 @@ mark_itself false = refl
 pub variable_eq : (v w : VarId) → v.n ≡ w.n → v.eq ≡ w.eq → v ≡ w
 variable_eq v w e f = λ i. record { n = e i; eq = f i }
 
-same_is : (v w : VarId) → same_variable v w ≡ true → v ≡ w
+pub same_is : (v w : VarId) → same_variable v w ≡ true → v ≡ w
 same_is v w e = let parts = both (v.n == w.n) (same_mark v.eq w.eq) e in variable_eq v w (n_eq parts.0) (mark_eq v.eq w.eq parts.1)
 
-same_itself : (v : VarId) → same_variable v v ≡ true
+pub same_itself : (v : VarId) → same_variable v v ≡ true
 same_itself v = ap₂ ◌&&◌ (n_same refl) (mark_itself v.eq)
 
 -- occurrence

@@ -3,7 +3,6 @@ ghost use Rattle.std.specs.Prelude.{◌≡◌, ◌<◌, ◌≤◌, ◌^◌, leng
 ghost use Rattle.type_core.specs.Lists.{concatenated};
 ghost use Rattle.type_core.specs.Renaming.{renamed, field_renamed};
 ghost use Rattle.type_core.specs.Schemes.{IsScheme, closed, numbered_among};
-ghost use Rattle.type_core.specs.Size.{size_of};
 ghost use Rattle.type_core.specs.Variables.{variables, field_variables, same_variable, occurs, place, meet, meet_all};
 
 use crate::ty::{Field, Scheme, Ty, VarId};
@@ -13,7 +12,7 @@ use std::alloc::Global;
 /// The type as a scheme: its variables are numbered from 0 in the order in which they first occur, and
 /// keep their marks. `'a` and `''a` are two variables.
 pub fn close(alloc: Global, t: &Ty) -> Result<Scheme, NoMemory>
-    requires fits { size_of t.now < 2 ^ 32 }
+    requires fits { length (variables t.now) < 2 ^ 32 }
     ensures value { IfOk result (λ s. s ≡ closed t.now) }
     ensures scheme { IfOk result IsScheme }
 {

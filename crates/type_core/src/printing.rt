@@ -21,7 +21,8 @@ pub enum Place {
 }
 
 /// The type as Standard ML writes it, with as few parentheses as its grammar asks for (the Definition,
-/// section 2.8). A name that isn't among `names` is written as nothing.
+/// section 2.8). A name that isn't among `names` is written as nothing. Fields are written as they stand
+/// in the tree, which in a type is the order of their labels.
 pub fn print_type(alloc: Global, names: &List<TypeName>, t: &Ty) -> Result<Text, NoMemory>
     ensures value { IfOk result (λ text. text ≡ type_text names.now t.now) }
 {

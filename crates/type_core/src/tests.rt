@@ -3,11 +3,13 @@ ghost use Rattle.std.specs.Prelude.{IfOk};
 ghost use Rattle.type_core.specs.Schemes.{IsScheme};
 
 use crate::{
-    Equality, Field, NameId, Scheme, Ty, TypeName, VarId, close, equal_schemes, height,
-    initial_names, print_scheme, print_type, size,
+    Equality, Field, NameId, Scheme, Ty, TypeFn, TypeName, VarId, admits_equality, apply_fn, close,
+    compare_labels, copy, equal_schemes, has_variables_below, height, initial_names, is_type,
+    is_type_fn, normal_size, print_scheme, print_type, same, size, substitute,
 };
 use sig_base::{Boxed, List, NoMemory, Text};
 use std::alloc::Global;
+use std::cmp::Ordering;
 use std::test::Fail;
 
 fn variable(n: u32) -> Ty {
@@ -244,5 +246,117 @@ fn types_are_measured(rt: HostRuntime) -> Result<(), Fail> {
     assert_eq!(rt; (size(&t), height(&t)), (4, 3));
     let t = record(alloc, variable(0), variable(1))?;
     assert_eq!(rt; (size(&t), height(&t)), (3, 2));
+    Ok(())
+}
+
+/// So many times `int` in a tuple.
+fn ints(alloc: Global, count: u32) -> Result<Ty, NoMemory> {
+    let mut components = List::new(alloc);
+    for _ in 0..count {
+        components.push(named(alloc, 0))?;
+    }
+    Ok(Ty::Tup(components))
+}
+
+/// The type with these in place of its variables, where there are enough.
+fn replaced(alloc: Global, t: Ty, by: List<Ty>) -> Result<Ty, NoMemory> {
+    if !has_variables_below(&t, by.len()) {
+        return Err(NoMemory);
+    }
+    substitute(alloc, &t, &by)
+}
+
+/// The type function at two types, where it is one of two parameters.
+fn applied_at(alloc: Global, f: TypeFn, first: Ty, second: Ty) -> Result<Ty, NoMemory> {
+    let args = two(alloc, first, second)?;
+    if !is_type_fn(&f) || f.arity as usize != args.len() {
+        return Err(NoMemory);
+    }
+    apply_fn(alloc, &f, &args)
+}
+
+fn labelled(alloc: Global, first: &[u8], second: &[u8]) -> Result<Ty, NoMemory> {
+    let mut fields = List::new(alloc);
+    let label = Text::from_slice(alloc, first)?;
+    fields.push(Field {
+        label,
+        ty: named(alloc, 0),
+    })?;
+    let label = Text::from_slice(alloc, second)?;
+    fields.push(Field {
+        label,
+        ty: named(alloc, 1),
+    })?;
+    Ok(Ty::Rec(fields))
+}
+
+#[test]
+fn normal_forms_are_measured(rt: HostRuntime) -> Result<(), Fail> {
+    let alloc = rt.alloc();
+    let t = arrow(alloc, ints(alloc, 99)?, ints(alloc, 80)?)?;
+    assert_eq!(rt; normal_size(&t), 8000);
+    let t = arrow(alloc, ints(alloc, 126)?, ints(alloc, 63)?)?;
+    assert_eq!(rt; normal_size(&t), 8001);
+    assert_eq!(rt; normal_size(&arrow(alloc, variable(0), unit(alloc))?), 0);
+    Ok(())
+}
+
+#[test]
+fn types_are_put_in_place(rt: HostRuntime) -> Result<(), Fail> {
+    let alloc = rt.alloc();
+    let t = arrow(alloc, variable(1), marked(0))?;
+    let by = two(alloc, named(alloc, 2), unit(alloc))?;
+    assert!(rt; shows(alloc, replaced(alloc, t, by)?, b"unit -> real")?);
+    let body = arrow(alloc, variable(1), variable(0))?;
+    let t = applied_at(
+        alloc,
+        TypeFn { arity: 2, body },
+        named(alloc, 0),
+        named(alloc, 1),
+    )?;
+    assert!(rt; shows(alloc, t, b"word -> int")?);
+    let t = labelled(alloc, b"a", b"b")?;
+    assert!(rt; same(&copy(alloc, &t)?, &t));
+    assert!(rt;
+        !is_type_fn(&TypeFn {
+            arity: 1,
+            body: marked(0)
+        })
+    );
+    Ok(())
+}
+
+#[test]
+fn equality_is_told(rt: HostRuntime) -> Result<(), Fail> {
+    let alloc = rt.alloc();
+    let names = names(alloc)?;
+    assert!(rt; admits_equality(&names, &named(alloc, 0)));
+    assert!(rt; !admits_equality(&names, &named(alloc, 2)));
+    assert!(rt; !admits_equality(&names, &applied(alloc, 9, variable(0))?));
+    assert!(rt; admits_equality(&names, &applied(alloc, 9, marked(0))?));
+    let t = arrow(alloc, variable(0), variable(0))?;
+    assert!(rt; admits_equality(&names, &applied(alloc, 10, t)?));
+    Ok(())
+}
+
+#[test]
+fn labels_are_ordered(rt: HostRuntime) -> Result<(), Fail> {
+    assert_eq!(rt; compare_labels(b"9", b"10"), Ordering::Less);
+    assert_eq!(rt; compare_labels(b"10", b"a"), Ordering::Less);
+    assert_eq!(rt; compare_labels(b"b", b"a"), Ordering::Greater);
+    assert_eq!(rt; compare_labels(b"12", b"12"), Ordering::Equal);
+    Ok(())
+}
+
+#[test]
+fn types_are_told(rt: HostRuntime) -> Result<(), Fail> {
+    let alloc = rt.alloc();
+    let names = names(alloc)?;
+    assert!(rt; is_type(&names, &labelled(alloc, b"2", b"10")?));
+    assert!(rt; !is_type(&names, &labelled(alloc, b"1", b"2")?));
+    assert!(rt; !is_type(&names, &labelled(alloc, b"b", b"a")?));
+    assert!(rt; !is_type(&names, &ints(alloc, 1)?));
+    assert!(rt; !is_type(&names, &applied(alloc, 0, unit(alloc))?));
+    assert!(rt; !is_type(&names, &named(alloc, 15)));
     Ok(())
 }

@@ -1,0 +1,4 @@
+pub mod Typing
+pub mod TypeOf
+pub mod Conversion
+pub mod InversePair

@@ -1,0 +1,14 @@
+// Laws of inverse pairs.
+ghost use Rattle.type_core.specs.declared.ty.Ty.{Ty};
+ghost use Rattle.conv_terms.specs.declared.term.Term.{Term};
+ghost use Rattle.conv_typing.specs.InversePair.{IsInversePair, identity};
+
+/// The identity of a type undoes itself.
+pub fn identities_are_inverse()
+    ensures law { (a : Ty) → IsInversePair a a (identity a) (identity a) }
+{}
+
+/// An inverse pair turned round is one.
+pub fn inverse_pairs_turn_round()
+    ensures law { (a b : Ty) (to from : Term) → IsInversePair a b to from → IsInversePair b a from to }
+{}
