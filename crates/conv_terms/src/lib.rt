@@ -4,7 +4,6 @@
 //! variables, and `subst` puts a term for a variable. The laws of the two hold of all terms, typed or not.
 #![tactic(auto)]
 
-mod copying;
 mod laws;
 mod shifting;
 mod substitution;
@@ -12,7 +11,6 @@ mod term;
 #[cfg(test)]
 mod tests;
 
-pub use copying::{copy_type, copy_types};
 pub use laws::{
     levels_of_a_shift, levels_of_a_substitution, shifting_by_none, shifting_is_substituting,
     shifting_twice, substituting_after_a_shift, substituting_commutes_with_itself,

@@ -3,10 +3,10 @@ ghost use Rattle.std.specs.Prelude.{◌≡◌, ◌+◌, ◌<◌, ◌≤◌, ◌^
 ghost use Rattle.conv_terms.specs.Levels.{levels, levels_of_all};
 ghost use Rattle.conv_terms.specs.Shifting.{raised, shifted};
 
-use crate::copying::copy_type;
 use crate::term::Term;
 use sig_base::{Boxed, List, NoMemory};
 use std::alloc::Global;
+use type_core::copy;
 
 fn raise(n: u32, from: u32, by: u32) -> u32
     requires fits { raised from by n < 2 ^ 32 }
@@ -26,7 +26,7 @@ pub fn shift(alloc: Global, t: &Term, from: u32, by: u32) -> Result<Term, NoMemo
     match t {
         Term::Var(n) => Ok(Term::Var(raise(*n, from, by))),
         Term::Lam(a, body) => {
-            let a = copy_type(alloc, a.get())?;
+            let a = copy(alloc, a.get())?;
             let a = Boxed::new(alloc, a)?;
             let body = shift(alloc, body.get(), from, by)?;
             let body = Boxed::new(alloc, body)?;

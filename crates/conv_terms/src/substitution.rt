@@ -3,11 +3,11 @@ ghost use Rattle.std.specs.Prelude.{◌≡◌, ◌+◌, ◌<◌, ◌≤◌, ◌^
 ghost use Rattle.conv_terms.specs.Levels.{levels, levels_of_all, nesting, nesting_of_all};
 ghost use Rattle.conv_terms.specs.Substitution.{image, traversed, each_below, substituted};
 
-use crate::copying::copy_type;
 use crate::shifting::shift;
 use crate::term::Term;
 use sig_base::{Boxed, List, NoMemory};
 use std::alloc::Global;
+use type_core::copy;
 
 /// What becomes of a variable below `depth` binders.
 fn image_of(alloc: Global, n: u32, level: u32, by: &Term, depth: u32) -> Result<Term, NoMemory>
@@ -33,7 +33,7 @@ fn subst_below(alloc: Global, t: &Term, level: u32, by: &Term, depth: u32) -> Re
     match t {
         Term::Var(n) => image_of(alloc, *n, level, by, depth),
         Term::Lam(a, body) => {
-            let a = copy_type(alloc, a.get())?;
+            let a = copy(alloc, a.get())?;
             let a = Boxed::new(alloc, a)?;
             let body = subst_below(alloc, body.get(), level, by, depth + 1)?;
             let body = Boxed::new(alloc, body)?;

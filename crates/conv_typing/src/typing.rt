@@ -5,17 +5,17 @@ ghost use Rattle.type_core.specs.declared.ty.Ty.TheVariants as ty;
 ghost use Rattle.conv_typing.specs.Typing.{HasType};
 ghost use Rattle.conv_typing.specs.TypeOf.{IsTypeOf, AreTypesOf, IsResult, tuple_of, component};
 
-use conv_terms::{Term, copy_type, copy_types};
+use conv_terms::Term;
 use sig_base::{Boxed, List, NoMemory};
 use std::alloc::Global;
-use type_core::{Ty, same};
+use type_core::{Ty, copy, copy_all, same};
 
 fn type_at(alloc: Global, types: &[Ty], place: u32) -> Result<Option<Ty>, NoMemory>
     ensures value { IfOk result (λ r. r ≡ slice_get types.now place) }
 {
     match types.get(place as usize) {
         Some(a) => {
-            let a = copy_type(alloc, a)?;
+            let a = copy(alloc, a)?;
             Ok(Some(a))
         }
         None => Ok(None),
@@ -35,7 +35,7 @@ fn function_type(alloc: Global, a: &Ty, body: Option<Ty>) -> Result<Option<Ty>, 
 {
     match body {
         Some(b) => {
-            let a = copy_type(alloc, a)?;
+            let a = copy(alloc, a)?;
             let a = Boxed::new(alloc, a)?;
             let b = Boxed::new(alloc, b)?;
             Ok(Some(Ty::Arrow(a, b)))
@@ -100,7 +100,7 @@ fn find_type(alloc: Global, t: &Term, ctx: &mut List<Ty>) -> Result<Option<Ty>, 
     match t {
         Term::Var(n) => type_at(alloc, ctx.as_slice(), *n),
         Term::Lam(a, body) => {
-            ctx.push(copy_type(alloc, a.get())?)?;
+            ctx.push(copy(alloc, a.get())?)?;
             let b = find_type(alloc, body.get(), ctx)?;
             leave(ctx);
             function_type(alloc, a.get(), b)
@@ -146,6 +146,6 @@ pub fn type_of(alloc: Global, ctx: &List<Ty>, t: &Term) -> Result<Option<Ty>, No
     ensures some { IfOk result (λ r. (a : Ty) → (r ≡ Some a) ↔ HasType ctx.now t.now a) }
     ensures none { IfOk result (λ r. (r ≡ None) ↔ ((a : Ty) → ¬ (HasType ctx.now t.now a))) }
 {
-    let mut ctx = copy_types(alloc, ctx.as_slice())?;
+    let mut ctx = copy_all(alloc, ctx.as_slice())?;
     find_type(alloc, t, &mut ctx)
 }

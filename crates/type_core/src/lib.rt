@@ -41,7 +41,7 @@ pub use names::{Equality, TypeName, initial_names};
 pub use normal::normal_size;
 pub use numerals::push_decimal;
 pub use printing::{Place, print_scheme, print_type};
-pub use substitution::{copy, has_variables_below, substitute};
+pub use substitution::{copy, copy_all, has_variables_below, substitute};
 pub use ty::{Field, NameId, Scheme, Ty, VarId};
 pub use type_fn::{TypeFn, apply_fn, is_type_fn};
 pub use types::is_type;

@@ -36,8 +36,9 @@ pub fn copy(alloc: Global, t: &Ty) -> Result<Ty, NoMemory>
     }
 }
 
+/// Copies of the types, in their order.
 #[cycle(copy)]
-fn copy_all(alloc: Global, parts: &[Ty]) -> Result<List<Ty>, NoMemory>
+pub fn copy_all(alloc: Global, parts: &[Ty]) -> Result<List<Ty>, NoMemory>
     ensures value { IfOk result (λ r. r ≡ parts.now) }
 {
     let mut done = List::new(alloc);

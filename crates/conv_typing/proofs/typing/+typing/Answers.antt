@@ -9,7 +9,7 @@ find_type-returns-in-Var-clause-value t c = var_answer _ _ _ _ _ c.in-Var.is c.a
 
 pub find_type-returns-in_ok-b-in-Lam-clause-value : goal.find_type-returns-in_ok-b-in-Lam-clause-value
 find_type-returns-in_ok-b-in-Lam-clause-value t c =
-    lam_answer _ _ _ _ _ _ _ _ _ _ c.in-Lam.is (c.in_ok-copy_type-in-Lam.ensures.value ∙ c.get.ensures.value) c.get-in-Lam-2.ensures.value c.get-in-Lam.ensures.value
+    lam_answer _ _ _ _ _ _ _ _ _ _ c.in-Lam.is (c.in_ok-copy-in-Lam.ensures.value ∙ c.get.ensures.value) c.get-in-Lam-2.ensures.value c.get-in-Lam.ensures.value
     c.in_ok-push-in-Lam.ensures.pushed c.in_ok-b-in-Lam.ensures.value c.function_type.ensures.value
 
 pub find_type-returns-in_ok-argument-in-App-clause-value : goal.find_type-returns-in_ok-argument-in-App-clause-value
