@@ -6,104 +6,118 @@ use Rattle.conv_terms.specs.Shifting.{raised, shifted}
 use Rattle.conv_terms.specs.Substitution.{Images, traversed, each_below, image, substituted, images, only}
 use Rattle.conv_terms.proofs.Equations.{HoldOf, induct, shifted_var, shifted_lam, shifted_app, shifted_tup, shifted_proj, traversed_var, traversed_lam, traversed_app, traversed_tup, traversed_proj}
 
--- two traversals agree on a term where they agree at each variable
-abbrev pub Agree : Images → Images → Term → Type 0
-Agree at to t = (d e : ℕ) → ((n j : ℕ) → at n (d + j) ≡ to n (e + j)) → traversed at t d ≡ traversed to t e
+-- from these depths on the two give each variable the same image
+abbrev Alike : Images → Images → ℕ → ℕ → Type 0
+Alike at to d e = (n j : ℕ) → at n (d + j) ≡ to n (e + j)
 
-next : (at to : Images) (d e : ℕ) → ((n j : ℕ) → at n (d + j) ≡ to n (e + j)) → (n j : ℕ) → at n (d + 1 + j) ≡ to n (e + 1 + j)
-next at to d e h n j =
+alike_here : (at to : Images) (d e : ℕ) → Alike at to d e → (n : ℕ) → at n d ≡ to n e
+alike_here at to d e h n =
+    let left : d ≡ d + 0 = omega arith in
+    let right : e + 0 ≡ e = omega arith in
+    ap (at n) left ∙ h n 0 ∙ ap (to n) right
+
+alike_next : (at to : Images) (d e : ℕ) → Alike at to d e → Alike at to (d + 1) (e + 1)
+alike_next at to d e h n j =
     let left : d + 1 + j ≡ d + (1 + j) = omega arith in
     let right : e + (1 + j) ≡ e + 1 + j = omega arith in
     ap (at n) left ∙ h n (1 + j) ∙ ap (to n) right
 
-pub agreeing : (at to : Images) (t : Term) → Agree at to t
-agreeing at to = induct (Agree at to)
-    (λ n d e h. traversed_var at n d ∙ ap (λ k. at n k) (zero_right d) ∙ h n 0 ∙ ap (λ k. to n k) (sym (zero_right e)) ∙ sym (traversed_var to n e))
-    (λ a t ih d e h. traversed_lam at a t d ∙ ap (term.Lam a) (ih (d + 1) (e + 1) (next at to d e h)) ∙ sym (traversed_lam to a t e))
-    (λ f a ihf iha d e h. traversed_app at f a d ∙ ap₂ term.App (ihf d e h) (iha d e h) ∙ sym (traversed_app to f a e))
-    (λ ts ihs d e h. traversed_tup at ts d ∙ ap term.Tup (parts ts ihs d e h) ∙ sym (traversed_tup to ts e))
-    (λ i n t ih d e h. traversed_proj at i n t d ∙ ap (term.Proj i n) (ih d e h) ∙ sym (traversed_proj to i n t e))
-  where
-    zero_right : (k : ℕ) → k ≡ k + 0
-    zero_right k = omega arith
+-- two traversals agree where they give each variable the same image
+module _ (at to : Images) where
+  abbrev Agree : Term → Type 0
+  Agree t = (d e : ℕ) → Alike at to d e → traversed at t d ≡ traversed to t e
 
-    parts : (ts : List Term) → HoldOf (Agree at to) ts → (d e : ℕ) → ((n j : ℕ) → at n (d + j) ≡ to n (e + j)) → each_below (map (traversed at) ts) d ≡ each_below (map (traversed to) ts) e
-    parts [] ihs d e h = refl
-    parts (t ∷ ts) ihs d e h = ap₂ ◌∷◌ (ihs.0 d e h) (parts ts ihs.1 d e h)
+  agree_all : (ts : List Term) → HoldOf Agree ts → (d e : ℕ) → Alike at to d e → each_below (map (traversed at) ts) d ≡ each_below (map (traversed to) ts) e
+  agree_all [] hs d e h = refl
+  agree_all (t ∷ ts) hs d e h = ap₂ ◌∷◌ (hs.0 d e h) (agree_all ts hs.1 d e h)
+
+  pub agreeing : (t : Term) (d e : ℕ) → Alike at to d e → traversed at t d ≡ traversed to t e
+  agreeing = induct Agree
+      (λ n d e h. traversed_var at n d ∙ alike_here at to d e h n ∙ sym (traversed_var to n e))
+      (λ a t ih d e h. traversed_lam at a t d ∙ ap (term.Lam a) (ih (d + 1) (e + 1) (alike_next at to d e h)) ∙ sym (traversed_lam to a t e))
+      (λ f t left right d e h. traversed_app at f t d ∙ ap₂ term.App (left d e h) (right d e h) ∙ sym (traversed_app to f t e))
+      (λ ts hs d e h. traversed_tup at ts d ∙ ap term.Tup (agree_all ts hs d e h) ∙ sym (traversed_tup to ts e))
+      (λ i n t ih d e h. traversed_proj at i n t d ∙ ap (term.Proj i n) (ih d e h) ∙ sym (traversed_proj to i n t e))
+
+-- from these depths on the images by `both` are those by `first`, traversed by `second`
+abbrev Composed : Images → Images → Images → ℕ → ℕ → ℕ → Type 0
+Composed first second both d e f = (n j : ℕ) → traversed second (first n (d + j)) (e + j) ≡ both n (f + j)
+
+composed_here : (first second both : Images) (d e f : ℕ) → Composed first second both d e f → (n : ℕ) → traversed second (first n d) e ≡ both n f
+composed_here first second both d e f h n =
+    let one : d ≡ d + 0 = omega arith in
+    let two : e ≡ e + 0 = omega arith in
+    let three : f + 0 ≡ f = omega arith in
+    ap₂ (λ x y. traversed second (first n x) y) one two ∙ h n 0 ∙ ap (both n) three
+
+composed_next : (first second both : Images) (d e f : ℕ) → Composed first second both d e f → Composed first second both (d + 1) (e + 1) (f + 1)
+composed_next first second both d e f h n j =
+    let one : d + 1 + j ≡ d + (1 + j) = omega arith in
+    let two : e + 1 + j ≡ e + (1 + j) = omega arith in
+    let three : f + (1 + j) ≡ f + 1 + j = omega arith in
+    ap₂ (λ x y. traversed second (first n x) y) one two ∙ h n (1 + j) ∙ ap (both n) three
 
 -- one traversal after another is a traversal
-abbrev pub Fuse : Images → Images → Images → Term → Type 0
-Fuse first second both t = (d e f : ℕ) → ((n j : ℕ) → traversed second (first n (d + j)) (e + j) ≡ both n (f + j)) → traversed second (traversed first t d) e ≡ traversed both t f
+module _ (first second both : Images) where
+  abbrev Fuse : Term → Type 0
+  Fuse t = (d e f : ℕ) → Composed first second both d e f → traversed second (traversed first t d) e ≡ traversed both t f
 
-pub fused : (first second both : Images) (t : Term) → Fuse first second both t
-fused first second both = induct (Fuse first second both)
-    (λ n d e f h. ap (λ t. traversed second t e) (traversed_var first n d) ∙ at_var n d e f (h n 0) ∙ sym (traversed_var both n f))
-    (λ a t ih d e f h. ap (λ t. traversed second t e) (traversed_lam first a t d) ∙ traversed_lam second a _ e ∙ ap (term.Lam a) (ih (d + 1) (e + 1) (f + 1) (step d e f h)) ∙ sym (traversed_lam both a t f))
-    (λ g a ihg iha d e f h. ap (λ t. traversed second t e) (traversed_app first g a d) ∙ traversed_app second _ _ e ∙ ap₂ term.App (ihg d e f h) (iha d e f h) ∙ sym (traversed_app both g a f))
-    (λ ts ihs d e f h. ap (λ t. traversed second t e) (traversed_tup first ts d) ∙ traversed_tup second _ e ∙ ap term.Tup (parts ts ihs d e f h) ∙ sym (traversed_tup both ts f))
-    (λ i n t ih d e f h. ap (λ t. traversed second t e) (traversed_proj first i n t d) ∙ traversed_proj second i n _ e ∙ ap (term.Proj i n) (ih d e f h) ∙ sym (traversed_proj both i n t f))
-  where
-    at_var : (n d e f : ℕ) → traversed second (first n (d + 0)) (e + 0) ≡ both n (f + 0) → traversed second (first n d) e ≡ both n f
-    at_var n d e f h =
-        let one : d ≡ d + 0 = omega arith in
-        let two : e ≡ e + 0 = omega arith in
-        let three : f + 0 ≡ f = omega arith in
-        ap₂ (λ x y. traversed second (first n x) y) one two ∙ h ∙ ap (both n) three
+  fuse_all : (ts : List Term) → HoldOf Fuse ts → (d e f : ℕ) → Composed first second both d e f → each_below (map (traversed second) (each_below (map (traversed first) ts) d)) e ≡ each_below (map (traversed both) ts) f
+  fuse_all [] hs d e f h = refl
+  fuse_all (t ∷ ts) hs d e f h = ap₂ ◌∷◌ (hs.0 d e f h) (fuse_all ts hs.1 d e f h)
 
-    step : (d e f : ℕ) → ((n j : ℕ) → traversed second (first n (d + j)) (e + j) ≡ both n (f + j)) → (n j : ℕ) → traversed second (first n (d + 1 + j)) (e + 1 + j) ≡ both n (f + 1 + j)
-    step d e f h n j =
-        let one : d + 1 + j ≡ d + (1 + j) = omega arith in
-        let two : e + 1 + j ≡ e + (1 + j) = omega arith in
-        let three : f + (1 + j) ≡ f + 1 + j = omega arith in
-        ap₂ (λ x y. traversed second (first n x) y) one two ∙ h n (1 + j) ∙ ap (both n) three
+  pub fused : (t : Term) (d e f : ℕ) → Composed first second both d e f → traversed second (traversed first t d) e ≡ traversed both t f
+  fused = induct Fuse
+      (λ n d e f h. ap (λ t. traversed second t e) (traversed_var first n d) ∙ composed_here first second both d e f h n ∙ sym (traversed_var both n f))
+      (λ a t ih d e f h. ap (λ t. traversed second t e) (traversed_lam first a t d) ∙ traversed_lam second a _ e ∙ ap (term.Lam a) (ih (d + 1) (e + 1) (f + 1) (composed_next first second both d e f h)) ∙ sym (traversed_lam both a t f))
+      (λ g t left right d e f h. ap (λ t. traversed second t e) (traversed_app first g t d) ∙ traversed_app second _ _ e ∙ ap₂ term.App (left d e f h) (right d e f h) ∙ sym (traversed_app both g t f))
+      (λ ts hs d e f h. ap (λ t. traversed second t e) (traversed_tup first ts d) ∙ traversed_tup second _ e ∙ ap term.Tup (fuse_all ts hs d e f h) ∙ sym (traversed_tup both ts f))
+      (λ i n t ih d e f h. ap (λ t. traversed second t e) (traversed_proj first i n t d) ∙ traversed_proj second i n _ e ∙ ap (term.Proj i n) (ih d e f h) ∙ sym (traversed_proj both i n t f))
 
-    parts : (ts : List Term) → HoldOf (Fuse first second both) ts → (d e f : ℕ) → ((n j : ℕ) → traversed second (first n (d + j)) (e + j) ≡ both n (f + j)) → each_below (map (traversed second) (each_below (map (traversed first) ts) d)) e ≡ each_below (map (traversed both) ts) f
-    parts [] ihs d e f h = refl
-    parts (t ∷ ts) ihs d e f h = ap₂ ◌∷◌ (ihs.0 d e f h) (parts ts ihs.1 d e f h)
+-- a traversal in which each variable stays
+abbrev staying : Images
+staying n depth = term.Var n
+
+abbrev Stays : Term → Type 0
+Stays t = (d : ℕ) → traversed staying t d ≡ t
+
+stay_all : (ts : List Term) → HoldOf Stays ts → (d : ℕ) → each_below (map (traversed staying) ts) d ≡ ts
+stay_all [] hs d = refl
+stay_all (t ∷ ts) hs d = ap₂ ◌∷◌ (hs.0 d) (stay_all ts hs.1 d)
+
+traversed_itself : (t : Term) (d : ℕ) → traversed staying t d ≡ t
+traversed_itself = induct Stays
+    (λ n d. traversed_var staying n d)
+    (λ a t ih d. traversed_lam staying a t d ∙ ap (term.Lam a) (ih (d + 1)))
+    (λ f t left right d. traversed_app staying f t d ∙ ap₂ term.App (left d) (right d))
+    (λ ts hs d. traversed_tup staying ts d ∙ ap term.Tup (stay_all ts hs d))
+    (λ i n t ih d. traversed_proj staying i n t d ∙ ap (term.Proj i n) (ih d))
 
 -- a shift is a traversal
 abbrev pub raising : ℕ → ℕ → Images
-raising from by n d = term.Var (raised from by n)
+raising from by n depth = term.Var (raised from by n)
 
-pub shifted_traversed : (from by : ℕ) (t : Term) (d : ℕ) → shifted from by t ≡ traversed (raising from by) t d
-shifted_traversed from by = induct (λ t. (d : ℕ) → shifted from by t ≡ traversed (raising from by) t d)
-    (λ n d. shifted_var from by n ∙ sym (traversed_var (raising from by) n d))
-    (λ a t ih d. shifted_lam from by a t ∙ ap (term.Lam a) (ih (d + 1)) ∙ sym (traversed_lam (raising from by) a t d))
-    (λ f a ihf iha d. shifted_app from by f a ∙ ap₂ term.App (ihf d) (iha d) ∙ sym (traversed_app (raising from by) f a d))
-    (λ ts ihs d. shifted_tup from by ts ∙ ap term.Tup (parts ts ihs d) ∙ sym (traversed_tup (raising from by) ts d))
-    (λ i n t ih d. shifted_proj from by i n t ∙ ap (term.Proj i n) (ih d) ∙ sym (traversed_proj (raising from by) i n t d))
-  where
-    parts : (ts : List Term) → HoldOf (λ t. (d : ℕ) → shifted from by t ≡ traversed (raising from by) t d) ts → (d : ℕ) → map (shifted from by) ts ≡ each_below (map (traversed (raising from by)) ts) d
-    parts [] ihs d = refl
-    parts (t ∷ ts) ihs d = ap₂ ◌∷◌ (ihs.0 d) (parts ts ihs.1 d)
+module _ (from by : ℕ) where
+  abbrev Raises : Term → Type 0
+  Raises t = (d : ℕ) → shifted from by t ≡ traversed (raising from by) t d
 
--- a traversal in which each variable stays
-pub traversed_itself : (at : Images) (d : ℕ) → ((n j : ℕ) → at n (d + j) ≡ term.Var n) → (t : Term) → traversed at t d ≡ t
-traversed_itself at d h t = go t d h
-  where
-    go : (t : Term) (d : ℕ) → ((n j : ℕ) → at n (d + j) ≡ term.Var n) → traversed at t d ≡ t
-    go = induct (λ t. (d : ℕ) → ((n j : ℕ) → at n (d + j) ≡ term.Var n) → traversed at t d ≡ t)
-        (λ n d h. traversed_var at n d ∙ zero n d (h n 0))
-        (λ a t ih d h. traversed_lam at a t d ∙ ap (term.Lam a) (ih (d + 1) (step d h)))
-        (λ f a ihf iha d h. traversed_app at f a d ∙ ap₂ term.App (ihf d h) (iha d h))
-        (λ ts ihs d h. traversed_tup at ts d ∙ ap term.Tup (parts ts ihs d h))
-        (λ i n t ih d h. traversed_proj at i n t d ∙ ap (term.Proj i n) (ih d h))
-      where
-        zero : (n d : ℕ) → at n (d + 0) ≡ term.Var n → at n d ≡ term.Var n
-        zero n d h = let e : d ≡ d + 0 = omega arith in ap (at n) e ∙ h
+  raise_all : (ts : List Term) → HoldOf Raises ts → (d : ℕ) → map (shifted from by) ts ≡ each_below (map (traversed (raising from by)) ts) d
+  raise_all [] hs d = refl
+  raise_all (t ∷ ts) hs d = ap₂ ◌∷◌ (hs.0 d) (raise_all ts hs.1 d)
 
-        step : (d : ℕ) → ((n j : ℕ) → at n (d + j) ≡ term.Var n) → (n j : ℕ) → at n (d + 1 + j) ≡ term.Var n
-        step d h n j = let e : d + 1 + j ≡ d + (1 + j) = omega arith in ap (at n) e ∙ h n (1 + j)
-
-        parts : (ts : List Term) → HoldOf (λ t. (d : ℕ) → ((n j : ℕ) → at n (d + j) ≡ term.Var n) → traversed at t d ≡ t) ts → (d : ℕ) → ((n j : ℕ) → at n (d + j) ≡ term.Var n) → each_below (map (traversed at) ts) d ≡ ts
-        parts [] ihs d h = refl
-        parts (t ∷ ts) ihs d h = ap₂ ◌∷◌ (ihs.0 d h) (parts ts ihs.1 d h)
+  pub shifted_traversed : (t : Term) (d : ℕ) → shifted from by t ≡ traversed (raising from by) t d
+  shifted_traversed = induct Raises
+      (λ n d. shifted_var from by n ∙ sym (traversed_var (raising from by) n d))
+      (λ a t ih d. shifted_lam from by a t ∙ ap (term.Lam a) (ih (d + 1)) ∙ sym (traversed_lam (raising from by) a t d))
+      (λ f t left right d. shifted_app from by f t ∙ ap₂ term.App (left d) (right d) ∙ sym (traversed_app (raising from by) f t d))
+      (λ ts hs d. shifted_tup from by ts ∙ ap term.Tup (raise_all ts hs d) ∙ sym (traversed_tup (raising from by) ts d))
+      (λ i n t ih d. shifted_proj from by i n t ∙ ap (term.Proj i n) (ih d) ∙ sym (traversed_proj (raising from by) i n t d))
 
 raised_none : (from n : ℕ) → raised from 0 n ≡ n
 raised_none from n = grind arith
 
 pub shifted_by_none : (t : Term) (from : ℕ) → shifted from 0 t ≡ t
-shifted_by_none t from = shifted_traversed from 0 t 0 ∙ traversed_itself (raising from 0) 0 (λ n j. ap term.Var (raised_none from n)) t
+shifted_by_none t from = shifted_traversed from 0 t 0 ∙ agreeing (raising from 0) staying t 0 0 (λ n j. ap term.Var (raised_none from n)) ∙ traversed_itself t 0
 
 -- a number raised twice, the second time among the places left free
 raised_twice : (from by at more n : ℕ) → from ≤ at → at ≤ from + by → raised at more (raised from by n) ≡ raised from (by + more) n

@@ -25,36 +25,36 @@ traversed_get at [] i k t h = ap (option_map (λ u. traversed at u k)) h
 traversed_get at (u ∷ ts) zero k t h = ap (option_map (λ u. traversed at u k)) h
 traversed_get at (u ∷ ts) (suc i) k t h = traversed_get at ts i k t h
 
-module _ (terms : ℕ → Term) (g g' : List Ty) (h : Fits (images (length g) (length g') terms) g g') where
+module _ (terms : ℕ → Term) (g h : List Ty) (fits : Fits (images (length g) (length h) terms) g h) where
   abbrev at : Images
-  at = images (length g) (length g') terms
+  at = images (length g) (length h) terms
 
-  beta_end : (ctx d : List Ty) (e t : Term) → ctx ≡ g ++ d → traversed at (substituted (length ctx) e t) (length d) ≡ substituted (length (g' ++ d)) (traversed at e (length d)) (traversed at t (length d + 1))
+  beta_end : (ctx d : List Ty) (e t : Term) → ctx ≡ g ++ d → traversed at (substituted (length ctx) e t) (length d) ≡ substituted (length (h ++ d)) (traversed at e (length d)) (traversed at t (length d + 1))
   beta_end ctx d e t c =
-      ap (λ n. traversed at (substituted n e t) (length d)) (ap length c ∙ length_of g d) ∙ all_of_substituted (length g) (length g') terms (length d) e t
-      ∙ ap (λ n. substituted n (traversed at e (length d)) (traversed at t (length d + 1))) (sym (length_of g' d))
+      ap (λ n. traversed at (substituted n e t) (length d)) (ap length c ∙ length_of g d) ∙ all_of_substituted (length g) (length h) terms (length d) e t
+      ∙ ap (λ n. substituted n (traversed at e (length d)) (traversed at t (length d + 1))) (sym (length_of h d))
 
-  eta_end : (ctx d : List Ty) (a : Ty) (f : Term) → ctx ≡ g ++ d → traversed at (term.Lam a (term.App (shifted (length ctx) 1 f) (term.Var (length ctx)))) (length d) ≡ term.Lam a (term.App (shifted (length (g' ++ d)) 1 (traversed at f (length d))) (term.Var (length (g' ++ d))))
+  eta_end : (ctx d : List Ty) (a : Ty) (f : Term) → ctx ≡ g ++ d → traversed at (term.Lam a (term.App (shifted (length ctx) 1 f) (term.Var (length ctx)))) (length d) ≡ term.Lam a (term.App (shifted (length (h ++ d)) 1 (traversed at f (length d))) (term.Var (length (h ++ d))))
   eta_end ctx d a f c =
       let n : length ctx ≡ length g + length d = ap length c ∙ length_of g d in
-      let m : length (g' ++ d) ≡ length g' + length d = length_of g' d in
+      let m : length (h ++ d) ≡ length h + length d = length_of h d in
       let over : length g ≤ length ctx = omega (arith, n) in
-      let last : length ctx - length g + length g' ≡ length (g' ++ d) = omega (arith, n, m) in
+      let last : length ctx - length g + length h ≡ length (h ++ d) = omega (arith, n, m) in
       traversed_lam at a _ (length d) ∙ ap (term.Lam a) (traversed_app at _ _ (length d + 1) ∙ ap₂ term.App
-      (ap (λ k. traversed at (shifted k 1 f) (length d + 1)) n ∙ all_of_shifted (length g) (length g') terms (length d) 1 f ∙ ap (λ k. shifted k 1 (traversed at f (length d))) (sym m))
-      (traversed_var at (length ctx) (length d + 1) ∙ images_other (length g) (length g') terms (length ctx) (length d + 1) over ∙ ap term.Var last))
+      (ap (λ k. traversed at (shifted k 1 f) (length d + 1)) n ∙ all_of_shifted (length g) (length h) terms (length d) 1 f ∙ ap (λ k. shifted k 1 (traversed at f (length d))) (sym m))
+      (traversed_var at (length ctx) (length d + 1) ∙ images_other (length g) (length h) terms (length ctx) (length d + 1) over ∙ ap term.Var last))
 
   whole_end : (types d : List Ty) (e : Term) → traversed at (term.Tup (projections e (length types) 1 (length types))) (length d) ≡ term.Tup (projections (traversed at e (length d)) (length types) 1 (length types))
   whole_end types d e = traversed_tup at _ (length d) ∙ ap term.Tup (traversed_projections at e (length types) 1 (length types) (length d))
 
   abbrev To : List Ty → Ty → Term → Term → Type 0
-  To d a t u = Converts (g' ++ d) a (traversed at t (length d)) (traversed at u (length d))
+  To d a t u = Converts (h ++ d) a (traversed at t (length d)) (traversed at u (length d))
 
-  fit : {ctx : List Ty} {t : Term} {a : Ty} → HasType ctx t a → (d : List Ty) → ctx ≡ g ++ d → HasType (g' ++ d) (traversed at t (length d)) a
-  fit k d c = traversed_typed at g g' h k d c
+  fit : {ctx : List Ty} {t : Term} {a : Ty} → HasType ctx t a → (d : List Ty) → ctx ≡ g ++ d → HasType (h ++ d) (traversed at t (length d)) a
+  fit k d c = traversed_typed at g h fits k d c
 
-  fit_under : (ctx : List Ty) (a : Ty) (t : Term) (b : Ty) → HasType (ctx ++ a ∷ []) t b → (d : List Ty) → ctx ≡ g ++ d → HasType ((g' ++ d) ++ a ∷ []) (traversed at t (length d + 1)) b
-  fit_under ctx a t b k d c = subst₂ (λ x k. HasType x (traversed at t k) b) (sym (append_assoc g' d (a ∷ []))) (one_more d a) (fit k (d ++ a ∷ []) (longer g d ctx a c))
+  fit_under : (ctx : List Ty) (a : Ty) (t : Term) (b : Ty) → HasType (ctx ++ a ∷ []) t b → (d : List Ty) → ctx ≡ g ++ d → HasType ((h ++ d) ++ a ∷ []) (traversed at t (length d + 1)) b
+  fit_under ctx a t b k d c = subst₂ (λ x k. HasType x (traversed at t k) b) (sym (append_assoc h d (a ∷ []))) (one_more d a) (fit k (d ++ a ∷ []) (longer g d ctx a c))
 
   mutual
     pub traversed_converts : {ctx : List Ty} {a : Ty} {t u : Term} → Converts ctx a t u → (d : List Ty) → ctx ≡ g ++ d → To d a t u
@@ -62,26 +62,26 @@ module _ (terms : ℕ → Term) (g g' : List Ty) (h : Fits (images (length g) (l
     traversed_converts (Converts.back k) d c = Converts.back (traversed_converts k d c)
     traversed_converts (Converts.chain k l) d c = Converts.chain (traversed_converts k d c) (traversed_converts l d c)
     traversed_converts {ctx = ctx} (Converts.lam a {b} t u k) d c =
-        subst₂ (Converts (g' ++ d) (ty.Arrow a b)) (sym (traversed_lam at a t (length d))) (sym (traversed_lam at a u (length d)))
-        (Converts.lam a (traversed at t (length d + 1)) (traversed at u (length d + 1)) (subst₂ (λ x k. Converts x b (traversed at t k) (traversed at u k)) (sym (append_assoc g' d (a ∷ []))) (one_more d a) (traversed_converts k (d ++ a ∷ []) (longer g d ctx a c))))
+        subst₂ (Converts (h ++ d) (ty.Arrow a b)) (sym (traversed_lam at a t (length d))) (sym (traversed_lam at a u (length d)))
+        (Converts.lam a (traversed at t (length d + 1)) (traversed at u (length d + 1)) (subst₂ (λ x k. Converts x b (traversed at t k) (traversed at u k)) (sym (append_assoc h d (a ∷ []))) (one_more d a) (traversed_converts k (d ++ a ∷ []) (longer g d ctx a c))))
     traversed_converts {a = b} (Converts.app {a = a} f f' t u k l) d c =
-        subst₂ (Converts (g' ++ d) b) (sym (traversed_app at f t (length d))) (sym (traversed_app at f' u (length d))) (Converts.app _ _ _ _ (traversed_converts k d c) (traversed_converts l d c))
+        subst₂ (Converts (h ++ d) b) (sym (traversed_app at f t (length d))) (sym (traversed_app at f' u (length d))) (Converts.app _ _ _ _ (traversed_converts k d c) (traversed_converts l d c))
     traversed_converts (Converts.tup types ts us l k) d c =
-        subst₂ (Converts (g' ++ d) (ty.Tup types)) (sym (traversed_tup at ts (length d))) (sym (traversed_tup at us (length d))) (Converts.tup types _ _ l (traversed_convert k d c))
+        subst₂ (Converts (h ++ d) (ty.Tup types)) (sym (traversed_tup at ts (length d))) (sym (traversed_tup at us (length d))) (Converts.tup types _ _ l (traversed_convert k d c))
     traversed_converts {a = a} (Converts.proj i types t u less l k) d c =
-        subst₂ (Converts (g' ++ d) a) (sym (traversed_proj at (i + 1) (length types) t (length d))) (sym (traversed_proj at (i + 1) (length types) u (length d))) (Converts.proj i types _ _ less l (traversed_converts k d c))
+        subst₂ (Converts (h ++ d) a) (sym (traversed_proj at (i + 1) (length types) t (length d))) (sym (traversed_proj at (i + 1) (length types) u (length d))) (Converts.proj i types _ _ less l (traversed_converts k d c))
     traversed_converts {ctx = ctx} (Converts.beta a {b} t e k l) d c =
-        subst₂ (Converts (g' ++ d) b) (sym (traversed_app at (term.Lam a t) e (length d) ∙ ap (λ f. term.App f (traversed at e (length d))) (traversed_lam at a t (length d)))) (sym (beta_end ctx d e t c))
+        subst₂ (Converts (h ++ d) b) (sym (traversed_app at (term.Lam a t) e (length d) ∙ ap (λ f. term.App f (traversed at e (length d))) (traversed_lam at a t (length d)))) (sym (beta_end ctx d e t c))
         (Converts.beta a (traversed at t (length d + 1)) (traversed at e (length d)) (fit_under ctx a t b k d c) (fit l d c))
     traversed_converts {a = a} (Converts.part i types ts t l ks p q) d c =
-        subst (λ x. Converts (g' ++ d) a x (traversed at t (length d))) (sym (traversed_proj at (i + 1) (length types) (term.Tup ts) (length d) ∙ ap (term.Proj (i + 1) (length types)) (traversed_tup at ts (length d))))
-        (Converts.part i types (each_below (map (traversed at) ts) (length d)) (traversed at t (length d)) l (traversed_each at g g' h ks d c) p (traversed_get at ts i (length d) t q))
+        subst (λ x. Converts (h ++ d) a x (traversed at t (length d))) (sym (traversed_proj at (i + 1) (length types) (term.Tup ts) (length d) ∙ ap (term.Proj (i + 1) (length types)) (traversed_tup at ts (length d))))
+        (Converts.part i types (each_below (map (traversed at) ts) (length d)) (traversed at t (length d)) l (traversed_each at g h fits ks d c) p (traversed_get at ts i (length d) t q))
     traversed_converts {ctx = ctx} (Converts.eta a b f k) d c =
-        subst (λ x. Converts (g' ++ d) (ty.Arrow a b) x (traversed at f (length d))) (sym (eta_end ctx d a f c)) (Converts.eta a b (traversed at f (length d)) (fit k d c))
+        subst (λ x. Converts (h ++ d) (ty.Arrow a b) x (traversed at f (length d))) (sym (eta_end ctx d a f c)) (Converts.eta a b (traversed at f (length d)) (fit k d c))
     traversed_converts (Converts.whole types e l k) d c =
-        subst (λ x. Converts (g' ++ d) (ty.Tup types) x (traversed at e (length d))) (sym (whole_end types d e)) (Converts.whole types (traversed at e (length d)) l (fit k d c))
+        subst (λ x. Converts (h ++ d) (ty.Tup types) x (traversed at e (length d))) (sym (whole_end types d e)) (Converts.whole types (traversed at e (length d)) l (fit k d c))
 
-    pub traversed_convert : {ctx : List Ty} {types : List Ty} {ts us : List Term} → ConvertEach ctx types ts us → (d : List Ty) → ctx ≡ g ++ d → ConvertEach (g' ++ d) types (each_below (map (traversed at) ts) (length d)) (each_below (map (traversed at) us) (length d))
+    pub traversed_convert : {ctx : List Ty} {types : List Ty} {ts us : List Term} → ConvertEach ctx types ts us → (d : List Ty) → ctx ≡ g ++ d → ConvertEach (h ++ d) types (each_below (map (traversed at) ts) (length d)) (each_below (map (traversed at) us) (length d))
     traversed_convert ConvertEach.none d c = ConvertEach.none
     traversed_convert (ConvertEach.more k ks) d c = ConvertEach.more (traversed_converts k d c) (traversed_convert ks d c)
 

@@ -10,14 +10,7 @@ use Rattle.conv_terms.specs.declared.term.Term.TheVariants as term
 use Rattle.conv_typing.specs.Typing.{HasType, HaveTypes}
 use Rattle.conv_typing.specs.TypeOf.{IsTypeOf, AreTypesOf, IsResult, tuple_of, component, component_step, from_one}
 use Rattle.conv_typing.proofs.Types.{out_tup, one_tuple, is_tuple}
-use Rattle.conv_typing.proofs.Inversion.{some_is, of_var, of_lam, of_app, of_tup, of_proj, one_type, one_types, same_place}
-
-abbrev IsThere : {A : Type 0} → Option A → Type 0
-IsThere (Some a) = Unit {0}
-IsThere None = ⊥
-
-pub none_not : {A : Type 0} (a : A) → None ≡ Some a → ⊥
-none_not a p = subst IsThere (sym p) tt
+use Rattle.conv_typing.proofs.Inversion.{some_is, none_not, of_var, of_lam, of_app, of_tup, of_proj, one_type, one_types, same_place}
 
 -- what is answered is the one type
 pub the_type : {ctx : List Ty} {t : Term} (r : Option Ty) → IsTypeOf ctx t r → (a : Ty) → (r ≡ Some a) ↔ HasType ctx t a

@@ -1,5 +1,5 @@
 -- What a typing of a term tells of its parts, and that a term has one type.
-use Rattle.std.proofs.Common.{◌≡◌, ◌≢◌, ℕ, ◌+◌, List, [], ◌∷◌, ◌++◌, length, slice_get, unwrap_or, Some, rules, refl, sym, ap, ap₂, ◌∙◌, subst, arith}
+use Rattle.std.proofs.Common.{◌≡◌, ◌≢◌, ℕ, ◌+◌, List, [], ◌∷◌, ◌++◌, length, slice_get, unwrap_or, Option, Some, None, rules, refl, sym, ap, ap₂, ◌∙◌, subst, arith}
 use Rattle.type_core.specs.declared.ty.Ty.{Ty}
 use Rattle.type_core.specs.declared.ty.Ty.TheVariants as ty
 use Rattle.conv_terms.specs.declared.term.Term.{Term, out-Term}
@@ -11,6 +11,13 @@ use Rattle.conv_typing.proofs.Types.{one_range, one_tuple}
 
 pub some_is : {A : Type 0} (a b : A) → Some a ≡ Some b → a ≡ b
 some_is a b p = ap (λ o. unwrap_or o a) p
+
+abbrev IsThere : {A : Type 0} → Option A → Type 0
+IsThere (Some a) = Unit {0}
+IsThere None = ⊥
+
+pub none_not : {A : Type 0} (a : A) → None ≡ Some a → ⊥
+none_not a p = subst IsThere (sym p) tt
 
 out_var : (n : ℕ) → out-Term (term.Var n) ≡ Var n
 out_var n = search (rules, the_lemmas)

@@ -7,8 +7,7 @@ use Rattle.conv_terms.specs.declared.term.Term.TheVariants as term
 use Rattle.conv_terms.specs.Shifting.{shifted}
 use Rattle.conv_typing.specs.Typing.{HasType, HaveTypes}
 use Rattle.conv_typing.specs.Conversion.{Converts, ConvertEach, projections}
-use Rattle.conv_typing.proofs.Inversion.{some_is}
-use Rattle.conv_typing.proofs.Deciding.{none_not}
+use Rattle.conv_typing.proofs.Inversion.{some_is, none_not}
 use Rattle.conv_typing.proofs.Weakening.{get_right, shifted_typed_end, substituted_typed, one_more}
 
 -- what converts has the type

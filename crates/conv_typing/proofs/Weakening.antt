@@ -1,54 +1,58 @@
 -- Typing is kept by traversals whose images fit, and so by shifting and by substitution.
-use Rattle.std.proofs.Common.{◌≡◌, ℕ, ◌+◌, ◌-◌, List, [], ◌∷◌, ◌++◌, map, refl, sym, ap, ◌∙◌, subst, subst₂, arith, ◌<◌, ◌≤◌, ◌⊎◌, inl, inr, length, slice_get, Some, zero, suc, append_assoc, append-nil, length-append}
+use Rattle.std.proofs.Common.{◌≡◌, ℕ, ◌+◌, ◌-◌, List, [], ◌∷◌, ◌++◌, map, refl, sym, ap, ◌∙◌, subst, subst₂, arith, ◌<◌, ◌≤◌, ◌⊎◌, inl, inr, length, slice_get, Some, zero, suc, append_assoc, append-nil, length-append, if◌then◌else◌, lt-ltb, le-ltb}
 use Rattle.type_core.specs.declared.ty.Ty.{Ty}
 use Rattle.type_core.specs.declared.ty.Ty.TheVariants as ty
 use Rattle.conv_terms.specs.declared.term.Term.{Term}
+use Rattle.conv_terms.specs.declared.term.Term.TheVariants as term
 use Rattle.conv_terms.specs.Shifting.{raised, shifted}
-use Rattle.conv_terms.specs.Substitution.{Images, traversed, each_below, image, images, substituted, substituted_all}
+use Rattle.conv_terms.specs.Substitution.{Images, traversed, each_below, images, substituted, substituted_all, only}
 use Rattle.conv_terms.proofs.Equations.{traversed_var, traversed_lam, traversed_app, traversed_tup, traversed_proj}
-use Rattle.conv_terms.proofs.Moving.{raising, shifted_traversed, raised_low, raised_high, images_known, images_other, image_low, image_same, image_high, below_or_from}
+use Rattle.conv_terms.proofs.Moving.{raising, shifted_traversed, raised_low, raised_high, images_known, images_other, below_or_from, substituted_one}
 use Rattle.conv_typing.specs.Typing.{HasType, HaveTypes, AreTyped}
-use Rattle.conv_typing.proofs.Inversion.{some_is}
+use Rattle.conv_typing.proofs.Inversion.{some_is, none_not}
 
 pub get_left : (g d : List Ty) (n : ℕ) → n < length g → slice_get (g ++ d) n ≡ slice_get g n
-get_left [] d n h = let no : ⊥ = omega arith in absurd no
+get_left [] d n h = let never : ⊥ = omega arith in absurd never
 get_left (a ∷ g) d zero h = refl
 get_left (a ∷ g) d (suc n) h = let less : n < length g = omega arith in get_left g d n less
 
 pub get_right : (g d : List Ty) (n : ℕ) → length g ≤ n → slice_get (g ++ d) n ≡ slice_get d (n - length g)
 get_right [] d n h = let e : n ≡ n - 0 = omega arith in ap (slice_get d) e
-get_right (a ∷ g) d zero h = let no : ⊥ = omega arith in absurd no
+get_right (a ∷ g) d zero h = let never : ⊥ = omega arith in absurd never
 get_right (a ∷ g) d (suc n) h =
     let less : length g ≤ n = omega arith in
     let e : n - length g ≡ suc n - suc (length g) = omega arith in
     get_right g d n less ∙ ap (slice_get d) e
 
--- each variable of the context stands for a term of its type
+-- below inner binders too, what becomes of a variable of the one context has its type in the other
 abbrev pub Fits : Images → List Ty → List Ty → Type 0
-Fits at g g' = (d : List Ty) (n : ℕ) (a : Ty) → slice_get (g ++ d) n ≡ Some a → HasType (g' ++ d) (at n (length d)) a
+Fits at g h = (inner : List Ty) (n : ℕ) (a : Ty) → slice_get (g ++ inner) n ≡ Some a → HasType (h ++ inner) (at n (length inner)) a
 
-pub longer : (g d ctx : List Ty) (a : Ty) → ctx ≡ g ++ d → ctx ++ a ∷ [] ≡ g ++ (d ++ a ∷ [])
-longer g d ctx a c = ap (λ x. x ++ a ∷ []) c ∙ append_assoc g d (a ∷ [])
+pub longer : (g inner ctx : List Ty) (a : Ty) → ctx ≡ g ++ inner → ctx ++ a ∷ [] ≡ g ++ (inner ++ a ∷ [])
+longer g inner ctx a is = ap (λ x. x ++ a ∷ []) is ∙ append_assoc g inner (a ∷ [])
 
-pub one_more : (d : List Ty) (a : Ty) → length (d ++ a ∷ []) ≡ length d + 1
-one_more d a = grind (arith, length-append)
+pub one_more : (inner : List Ty) (a : Ty) → length (inner ++ a ∷ []) ≡ length inner + 1
+one_more inner a = grind (arith, length-append)
 
-mutual
-  pub traversed_typed : (at : Images) (g g' : List Ty) → Fits at g g' → {ctx : List Ty} {t : Term} {a : Ty} → HasType ctx t a → (d : List Ty) → ctx ≡ g ++ d → HasType (g' ++ d) (traversed at t (length d)) a
-  traversed_typed at g g' h {a = a} (HasType.var n l) d c = subst (λ t. HasType (g' ++ d) t a) (sym (traversed_var at n (length d))) (h d n a (subst (λ x. slice_get x n ≡ Some a) c l))
-  traversed_typed at g g' h {ctx = ctx} (HasType.lam a {b} body k) d c =
-      subst (λ t. HasType (g' ++ d) t (ty.Arrow a b)) (sym (traversed_lam at a body (length d)))
-      (HasType.lam a (traversed at body (length d + 1)) (subst₂ (λ x k. HasType x (traversed at body k) b) (sym (append_assoc g' d (a ∷ []))) (one_more d a) (traversed_typed at g g' h k (d ++ a ∷ []) (longer g d ctx a c))))
-  traversed_typed at g g' h {a = b} (HasType.app {a = a} f e kf ke) d c =
-      subst (λ t. HasType (g' ++ d) t b) (sym (traversed_app at f e (length d))) (HasType.app (traversed at f (length d)) (traversed at e (length d)) (traversed_typed at g g' h kf d c) (traversed_typed at g g' h ke d c))
-  traversed_typed at g g' h (HasType.tup parts types l ks) d c =
-      subst (λ t. HasType (g' ++ d) t (ty.Tup types)) (sym (traversed_tup at parts (length d))) (HasType.tup (each_below (map (traversed at) parts) (length d)) types l (traversed_each at g g' h ks d c))
-  traversed_typed at g g' h {a = a} (HasType.proj i e types less l k) d c =
-      subst (λ t. HasType (g' ++ d) t a) (sym (traversed_proj at (i + 1) (length types) e (length d))) (HasType.proj i (traversed at e (length d)) types less l (traversed_typed at g g' h k d c))
+module _ (at : Images) (g h : List Ty) (fits : Fits at g h) where
+  mutual
+    pub traversed_typed : {ctx : List Ty} {t : Term} {a : Ty} → HasType ctx t a → (inner : List Ty) → ctx ≡ g ++ inner → HasType (h ++ inner) (traversed at t (length inner)) a
+    traversed_typed {a = a} (HasType.var n p) inner is =
+        subst (λ t. HasType (h ++ inner) t a) (sym (traversed_var at n (length inner))) (fits inner n a (subst (λ x. slice_get x n ≡ Some a) is p))
+    traversed_typed {ctx = ctx} (HasType.lam a {b} body k) inner is =
+        let below = traversed_typed k (inner ++ a ∷ []) (longer g inner ctx a is) in
+        subst (λ t. HasType (h ++ inner) t (ty.Arrow a b)) (sym (traversed_lam at a body (length inner)))
+        (HasType.lam a _ (subst₂ (λ x d. HasType x (traversed at body d) b) (sym (append_assoc h inner (a ∷ []))) (one_more inner a) below))
+    traversed_typed {a = b} (HasType.app f e k l) inner is =
+        subst (λ t. HasType (h ++ inner) t b) (sym (traversed_app at f e (length inner))) (HasType.app _ _ (traversed_typed k inner is) (traversed_typed l inner is))
+    traversed_typed (HasType.tup terms types less ks) inner is =
+        subst (λ t. HasType (h ++ inner) t (ty.Tup types)) (sym (traversed_tup at terms (length inner))) (HasType.tup _ types less (traversed_each ks inner is))
+    traversed_typed {a = a} (HasType.proj i e types less p k) inner is =
+        subst (λ t. HasType (h ++ inner) t a) (sym (traversed_proj at (i + 1) (length types) e (length inner))) (HasType.proj i _ types less p (traversed_typed k inner is))
 
-  pub traversed_each : (at : Images) (g g' : List Ty) → Fits at g g' → {ctx : List Ty} {ts : List Term} {types : List Ty} → HaveTypes ctx ts types → (d : List Ty) → ctx ≡ g ++ d → HaveTypes (g' ++ d) (each_below (map (traversed at) ts) (length d)) types
-  traversed_each at g g' h HaveTypes.none d c = HaveTypes.none
-  traversed_each at g g' h (HaveTypes.more k ks) d c = HaveTypes.more (traversed_typed at g g' h k d c) (traversed_each at g g' h ks d c)
+    pub traversed_each : {ctx : List Ty} {terms : List Term} {types : List Ty} → HaveTypes ctx terms types → (inner : List Ty) → ctx ≡ g ++ inner → HaveTypes (h ++ inner) (each_below (map (traversed at) terms) (length inner)) types
+    traversed_each HaveTypes.none inner is = HaveTypes.none
+    traversed_each (HaveTypes.more k ks) inner is = HaveTypes.more (traversed_typed k inner is) (traversed_each ks inner is)
 
 pub shift_fits : (g x : List Ty) → Fits (raising (length g) (length x)) g (g ++ x)
 shift_fits g x d n a l = HasType.var (raised (length g) (length x) n) (cases (below_or_from n (length g)))
@@ -87,26 +91,19 @@ pub all_typed : (ctx others inner : List Ty) (terms : ℕ → Term) (t : Term) (
 all_typed ctx others inner terms t a typed k = traversed_typed (images (length ctx) (length others) terms) ctx others (terms_fit terms ctx others typed) k inner refl
 
 -- a term for the last variable
-pub image_fits : (g : List Ty) (b : Ty) (e : Term) → HasType g e b → Fits (image (length g) e) (g ++ b ∷ []) g
-image_fits g b e k d n a l = cases (below_or_from n (length g)) (below_or_from (length g) n)
+alone : (b a : Ty) (n : ℕ) → slice_get (b ∷ []) n ≡ Some a → b ≡ a
+alone b a zero p = some_is b a p
+alone b a (suc n) p = absurd (none_not a p)
+
+only_typed : (g : List Ty) (b : Ty) (e : Term) → HasType g e b → AreTyped (only (length g) e) (g ++ b ∷ []) g
+only_typed g b e k n a p = cases (below_or_from n (length g))
   where
-    split : slice_get (g ++ (b ∷ d)) n ≡ Some a
-    split = ap (λ y. slice_get y n) (sym (append_assoc g (b ∷ []) d)) ∙ l
+    cases : (n < length g) ⊎ (length g ≤ n) → HasType g (only (length g) e n) a
+    cases (inl h) = subst (λ c. HasType g (if c then term.Var n else e) a) (sym (lt-ltb n (length g) h)) (HasType.var n (sym (get_left g (b ∷ []) n h) ∙ p))
+    cases (inr h) = subst₂ (λ c x. HasType g (if c then term.Var n else e) x) (sym (le-ltb n (length g) h)) (alone b a _ (sym (get_right g (b ∷ []) n h) ∙ p)) k
 
-    cases : (n < length g) ⊎ (length g ≤ n) → (length g < n) ⊎ (n ≤ length g) → HasType (g ++ d) (image (length g) e n (length d)) a
-    cases (inl h) _ = subst (λ t. HasType (g ++ d) t a) (sym (image_low (length g) e n (length d) h)) (HasType.var n (get_left g d n h ∙ sym (get_left g (b ∷ d) n h) ∙ split))
-    cases (inr h) (inl i) =
-        let one : length g ≤ n - 1 = omega arith in
-        let two : suc (n - 1 - length g) ≡ n - length g = omega arith in
-        subst (λ t. HasType (g ++ d) t a) (sym (image_high (length g) e n (length d) i))
-        (HasType.var (n - 1) (get_right g d (n - 1) one ∙ ap (slice_get (b ∷ d)) two ∙ sym (get_right g (b ∷ d) n h) ∙ split))
-    cases (inr h) (inr i) =
-        let exact : length g ≡ n = omega arith in
-        let none : n - length g ≡ 0 = omega arith in
-        let types : Some b ≡ Some a = sym (ap (slice_get (b ∷ d)) none) ∙ sym (get_right g (b ∷ d) n h) ∙ split in
-        subst (λ m. HasType (g ++ d) (image (length g) e m (length d)) a) exact
-        (subst₂ (λ t c. HasType (g ++ d) t c) (sym (image_same (length g) e (length d))) (some_is b a types) (shifted_typed_end g d e b k))
-
-pub substituted_typed : (g : List Ty) (b : Ty) (e : Term) (t : Term) (a : Ty) → HasType g e b → HasType (g ++ b ∷ []) t a → HasType g (substituted (length g) e t) a
-substituted_typed g b e t a k m =
-    subst (λ c. HasType c (substituted (length g) e t) a) (append-nil g) (traversed_typed (image (length g) e) (g ++ b ∷ []) g (image_fits g b e k) m [] (sym (append-nil (g ++ b ∷ []))))
+pub substituted_typed : (g : List Ty) (b : Ty) (e t : Term) (a : Ty) → HasType g e b → HasType (g ++ b ∷ []) t a → HasType g (substituted (length g) e t) a
+substituted_typed g b e t a k l =
+    let all = all_typed (g ++ b ∷ []) g [] (only (length g) e) t a (only_typed g b e k) (subst (λ c. HasType c t a) (sym (append-nil (g ++ b ∷ []))) l) in
+    let one = ap (λ n. traversed (images n (length g) (only (length g) e)) t 0) (one_more g b) ∙ sym (substituted_one (length g) 0 e t) in
+    subst₂ (λ c u. HasType c u a) (append-nil g) one all

@@ -8,6 +8,7 @@ pub mod Renamed
 pub mod Closed
 pub mod Pushing
 pub mod SchemeVariables
+pub mod SmallestLibrary
 pub mod Trees
 pub mod TypeTests
 pub mod EachVariable

@@ -50,7 +50,7 @@ BeginsWithUnit library path = (identifier : List ℕ) × IsUnit library identifi
 abbrev pub IsLabel : List ℕ → Type 0
 IsLabel text = IsShort text × (IsIdentifier text ⊎ IsTrue (is_numeral text))
 
--- a type over the names of the library, with no other labels
+-- a type over the names of the library, whose labels are all such ones
 pub record IsTypeOf (library : Library) (t : Ty) : Type 0 where
   pub over : IsTypeOver library.names t
   pub labels : All IsLabel (labels_of t)
@@ -60,6 +60,7 @@ pub record IsWithinLimits (t : Ty) : Type 0 where
   pub nodes : size_of t ≤ 2000
   pub height : height_of t ≤ 200
 
+-- a library is valid where it meets these rules; those on paths and names don't speak of the initial names
 pub record IsValidLibrary (library : Library) : Type 0 where
   -- the identifiers of units are distinct alphanumeric identifiers
   pub units_distinct : AreDistinct (map (λ unit. unit.id) library.units)
