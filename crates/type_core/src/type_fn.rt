@@ -17,7 +17,6 @@ pub struct TypeFn {
 
 /// The type that the function gives at these arguments (the Definition, section 4.4).
 pub fn apply_fn(alloc: Global, f: &TypeFn, args: &List<Ty>) -> Result<Ty, NoMemory>
-    requires function { IsTypeFn f.now }
     requires arity { f.now.arity ≡ length args.now }
     ensures value { IfOk result (λ r. r ≡ applied f.now args.now) }
 {
