@@ -10,6 +10,7 @@ use Rattle.conv_terms.proofs.Equations.{traversed_var, traversed_lam, traversed_
 use Rattle.conv_terms.proofs.Moving.{raising, agreeing, shifted_traversed, images_other, all_of_shifted, all_of_substituted, raising_images}
 use Rattle.conv_typing.specs.Typing.{HasType, AreTyped}
 use Rattle.conv_typing.specs.Conversion.{Converts, ConvertEach, projections}
+use Rattle.conv_typing.proofs.TypesAlone.{has_type_is_type}
 use Rattle.conv_typing.proofs.Kept.{converts_typed}
 use Rattle.conv_typing.proofs.Weakening.{Fits, traversed_typed, traversed_each, longer, one_more, shift_fits, terms_fit}
 
@@ -61,9 +62,9 @@ module _ (terms : ℕ → Term) (g h : List Ty) (fits : Fits (images (length g) 
     traversed_converts (Converts.same k) d c = Converts.same (fit k d c)
     traversed_converts (Converts.back k) d c = Converts.back (traversed_converts k d c)
     traversed_converts (Converts.chain k l) d c = Converts.chain (traversed_converts k d c) (traversed_converts l d c)
-    traversed_converts {ctx = ctx} (Converts.lam a {b} t u k) d c =
+    traversed_converts {ctx = ctx} (Converts.lam a {b} t u is k) d c =
         subst₂ (Converts (h ++ d) (ty.Arrow a b)) (sym (traversed_lam at a t (length d))) (sym (traversed_lam at a u (length d)))
-        (Converts.lam a (traversed at t (length d + 1)) (traversed at u (length d + 1)) (subst₂ (λ x k. Converts x b (traversed at t k) (traversed at u k)) (sym (append_assoc h d (a ∷ []))) (one_more d a) (traversed_converts k (d ++ a ∷ []) (longer g d ctx a c))))
+        (Converts.lam a (traversed at t (length d + 1)) (traversed at u (length d + 1)) is (subst₂ (λ x k. Converts x b (traversed at t k) (traversed at u k)) (sym (append_assoc h d (a ∷ []))) (one_more d a) (traversed_converts k (d ++ a ∷ []) (longer g d ctx a c))))
     traversed_converts {a = b} (Converts.app {a = a} f f' t u k l) d c =
         subst₂ (Converts (h ++ d) b) (sym (traversed_app at f t (length d))) (sym (traversed_app at f' u (length d))) (Converts.app _ _ _ _ (traversed_converts k d c) (traversed_converts l d c))
     traversed_converts (Converts.tup types ts us l k) d c =
@@ -96,7 +97,7 @@ shifted_converts g x d a t u k = subst₂ (Converts ((g ++ x) ++ d) a) (sym (pat
     each n d = raising_images (length g) (length x) n d ∙ ap (λ m. images (length g) m term.Var n d) same_length
 
     fits : Fits (images (length g) (length (g ++ x)) term.Var) g (g ++ x)
-    fits d n a l = subst (λ t. HasType ((g ++ x) ++ d) t a) (each n (length d)) (shift_fits g x d n a l)
+    fits d n a l is = subst (λ t. HasType ((g ++ x) ++ d) t a) (each n (length d)) (shift_fits g x d n a l is)
 
     path : (t : Term) → shifted (length g) (length x) t ≡ traversed (images (length g) (length (g ++ x)) term.Var) t (length d)
     path t = shifted_traversed (length g) (length x) t (length d) ∙ agreeing (raising (length g) (length x)) (images (length g) (length (g ++ x)) term.Var) t (length d) (length d) (λ n j. each n (length d + j))
@@ -110,4 +111,4 @@ pub both_substituted : (g : List Ty) (b : Ty) (e f : Term) (a : Ty) (t u : Term)
 both_substituted g b e f a t u k l =
     let typed = converts_typed k in
     let whole = converts_typed l in
-    Converts.chain (Converts.back (Converts.beta b t e whole.0 typed.0)) (Converts.chain (Converts.app _ _ e f (Converts.lam b t u l) k) (Converts.beta b u f whole.1 typed.1))
+    Converts.chain (Converts.back (Converts.beta b t e whole.0 typed.0)) (Converts.chain (Converts.app _ _ e f (Converts.lam b t u (has_type_is_type typed.0) l) k) (Converts.beta b u f whole.1 typed.1))

@@ -5,10 +5,11 @@ use Rattle.type_core.specs.declared.ty.Ty.{Ty, out-Ty}
 use Rattle.type_core.specs.declared.ty.Field.{Field}
 use Rattle.type_core.specs.declared.ty.Ty.TheVariants as ty
 use Rattle.type_core.specs.declared.ty.Ty.TheOpen.{Ty-F, Var, Con, Rec, Tup, Arrow}
+use Rattle.type_core.specs.Types.{is_type}
 use Rattle.conv_terms.specs.declared.term.Term.{Term}
 use Rattle.conv_terms.specs.declared.term.Term.TheVariants as term
 use Rattle.conv_typing.specs.Typing.{HasType, HaveTypes}
-use Rattle.conv_typing.specs.TypeOf.{IsTypeOf, AreTypesOf, IsResult, tuple_of, component, component_step, from_one}
+use Rattle.conv_typing.specs.TypeOf.{IsTypeOf, AreTypesOf, IsResult, if_type, function_from, tuple_of, component, component_step, from_one}
 use Rattle.conv_typing.proofs.Types.{out_tup, one_tuple, is_tuple}
 use Rattle.conv_typing.proofs.Inversion.{some_is, none_not, of_var, of_lam, of_app, of_tup, of_proj, one_type, one_types, same_place}
 
@@ -21,13 +22,24 @@ pub no_type : {ctx : List Ty} {t : Term} (r : Option Ty) → IsTypeOf ctx t r �
 no_type (Some b) k = ((λ p. absurd (none_not b (sym p))), (λ l. absurd (l b k)))
 no_type None k = ((λ _. k), (λ _. refl))
 
-pub var_type : (ctx : List Ty) (n : ℕ) (o : Option Ty) → o ≡ slice_get ctx n → IsTypeOf ctx (term.Var n) o
-var_type ctx n (Some a) e = HasType.var n (sym e)
-var_type ctx n None e = λ a k. none_not a (e ∙ of_var ctx n a k)
+pub var_type : (ctx : List Ty) (n : ℕ) (o : Option Ty) → o ≡ if_type (slice_get ctx n) → IsTypeOf ctx (term.Var n) o
+var_type ctx n o e = subst (IsTypeOf ctx (term.Var n)) (sym e) (seen (slice_get ctx n) refl)
+  where
+    tested : (a : Ty) → slice_get ctx n ≡ Some a → (b : Bool) → is_type a ≡ b → IsTypeOf ctx (term.Var n) (if b then Some a else None)
+    tested a p true q = HasType.var n p q
+    tested a p false q = λ c k. let other = of_var ctx n c k in true≢false (sym (ap is_type (some_is a c (sym p ∙ other.0)) ∙ other.1) ∙ q)
 
-pub lam_type : (ctx : List Ty) (a : Ty) (body : Term) (o : Option Ty) → IsTypeOf (ctx ++ a ∷ []) body o → IsTypeOf ctx (term.Lam a body) (option_map (ty.Arrow a) o)
-lam_type ctx a body (Some b) k = HasType.lam a body k
-lam_type ctx a body None k = λ c l. let (b, e, m) = of_lam ctx a body c l in k b m
+    seen : (x : Option Ty) → slice_get ctx n ≡ x → IsTypeOf ctx (term.Var n) (if_type x)
+    seen (Some a) p = tested a p (is_type a) refl
+    seen None p = λ a k. none_not a (sym p ∙ (of_var ctx n a k).0)
+
+pub lam_type : (ctx : List Ty) (a : Ty) (body : Term) (o : Option Ty) → IsTypeOf (ctx ++ a ∷ []) body o → IsTypeOf ctx (term.Lam a body) (function_from a o)
+lam_type ctx a body o k = tested (is_type a) refl o k
+  where
+    tested : (t : Bool) → is_type a ≡ t → (o : Option Ty) → IsTypeOf (ctx ++ a ∷ []) body o → IsTypeOf ctx (term.Lam a body) (if t then option_map (ty.Arrow a) o else None)
+    tested true p (Some b) k = HasType.lam a body p k
+    tested true p None k = λ c l. let (b, e, is, m) = of_lam ctx a body c l in k b m
+    tested false p o k = λ c l. let (b, e, is, m) = of_lam ctx a body c l in true≢false (sym is ∙ p)
 
 pub app_type : (ctx : List Ty) (f e : Term) (o p r : Option Ty) → IsTypeOf ctx f o → IsTypeOf ctx e p → IsResult o p r → IsTypeOf ctx (term.App f e) r
 app_type ctx f e o p (Some b) k l (a, g, h) = HasType.app {a = a} f e (subst (IsTypeOf ctx f) g k) (subst (IsTypeOf ctx e) h l)
@@ -105,12 +117,12 @@ if_ok (Ok x) f p = f x p
 if_ok (Err e) f p = tt
 
 module _ (ctx : List Ty) (t : Term) where
-  pub var_answer : (n : ℕ) (seen : List Ty) (r : Result (Option Ty) NoMemory) → t ≡ term.Var n → seen ≡ ctx → IfOk r (λ o. o ≡ slice_get seen n) → IfOk r (λ o. IsTypeOf ctx t o)
-  var_answer n seen r is seen_is = if_ok r (λ o e. subst (λ u. IsTypeOf ctx u o) (sym is) (var_type ctx n o (e ∙ ap (λ x. slice_get x n) seen_is)))
+  pub var_answer : (n : ℕ) (seen : List Ty) (r : Result (Option Ty) NoMemory) → t ≡ term.Var n → seen ≡ ctx → IfOk r (λ o. o ≡ if_type (slice_get seen n)) → IfOk r (λ o. IsTypeOf ctx t o)
+  var_answer n seen r is seen_is = if_ok r (λ o e. subst (λ u. IsTypeOf ctx u o) (sym is) (var_type ctx n o (e ∙ ap (λ x. if_type (slice_get x n)) seen_is)))
 
-  pub lam_answer : (a x y : Ty) (body part : Term) (inner : List Ty) (b : Option Ty) (r : Result (Option Ty) NoMemory) → t ≡ term.Lam a body → x ≡ a → y ≡ a → part ≡ body → inner ≡ ctx ++ x ∷ [] → IsTypeOf inner part b → IfOk r (λ o. o ≡ option_map (ty.Arrow y) b) → IfOk r (λ o. IsTypeOf ctx t o)
+  pub lam_answer : (a x y : Ty) (body part : Term) (inner : List Ty) (b : Option Ty) (r : Result (Option Ty) NoMemory) → t ≡ term.Lam a body → x ≡ a → y ≡ a → part ≡ body → inner ≡ ctx ++ x ∷ [] → IsTypeOf inner part b → IfOk r (λ o. o ≡ function_from y b) → IfOk r (λ o. IsTypeOf ctx t o)
   lam_answer a x y body part inner b r is x_is y_is part_is inner_is k = if_ok r (λ o e.
-      subst₂ (IsTypeOf ctx) (sym is) (ap (λ z. option_map (ty.Arrow z) b) (sym y_is) ∙ sym e)
+      subst₂ (IsTypeOf ctx) (sym is) (ap (λ z. function_from z b) (sym y_is) ∙ sym e)
       (lam_type ctx a body b (subst₂ (λ c u. IsTypeOf c u b) (inner_is ∙ ap (λ z. ctx ++ z ∷ []) x_is) part_is k)))
 
   pub app_answer : (f e g h : Term) (o p r : Option Ty) → t ≡ term.App f e → g ≡ f → h ≡ e → IsTypeOf ctx g o → IsTypeOf ctx h p → IsResult o p r → IsTypeOf ctx t r

@@ -2,6 +2,7 @@
 use Rattle.std.proofs.Common.{◌≡◌, ◌≢◌, ℕ, ◌+◌, List, [], ◌∷◌, ◌++◌, length, slice_get, unwrap_or, Option, Some, None, rules, refl, sym, ap, ap₂, ◌∙◌, subst, arith}
 use Rattle.type_core.specs.declared.ty.Ty.{Ty}
 use Rattle.type_core.specs.declared.ty.Ty.TheVariants as ty
+use Rattle.type_core.specs.Types.{IsType}
 use Rattle.conv_terms.specs.declared.term.Term.{Term, out-Term}
 use Rattle.conv_terms.specs.declared.term.Term.TheVariants as term
 use Rattle.conv_terms.specs.declared.term.Term.TheOpen.{Term-F, Var, Lam, App, Tup, Proj}
@@ -36,23 +37,23 @@ out_proj i n e = search (rules, the_lemmas)
 
 -- the premises of the one rule for this form of term
 abbrev Premises : List Ty → Term-F Term → Ty → Type 0
-Premises ctx (Var n) a = slice_get ctx n ≡ Some a
-Premises ctx (Lam a body) c = (b : Ty) × (c ≡ ty.Arrow a b) × HasType (ctx ++ a ∷ []) body b
+Premises ctx (Var n) a = (slice_get ctx n ≡ Some a) × IsType a
+Premises ctx (Lam a body) c = (b : Ty) × (c ≡ ty.Arrow a b) × IsType a × HasType (ctx ++ a ∷ []) body b
 Premises ctx (App f e) b = (a : Ty) × HasType ctx f (ty.Arrow a b) × HasType ctx e a
 Premises ctx (Tup ts) c = (types : List Ty) × (c ≡ ty.Tup types) × (length types ≢ 1) × HaveTypes ctx ts types
 Premises ctx (Proj i n e) a = (k : ℕ) × (types : List Ty) × (i ≡ k + 1) × (n ≡ length types) × (length types ≢ 1) × (slice_get types k ≡ Some a) × HasType ctx e (ty.Tup types)
 
 inverted : {ctx : List Ty} {t : Term} {a : Ty} → HasType ctx t a → Premises ctx (out-Term t) a
-inverted {ctx = ctx} {a = a} (HasType.var n p) = subst (λ v. Premises ctx v a) (sym (out_var n)) p
-inverted {ctx = ctx} (HasType.lam a {b} body k) = subst (λ v. Premises ctx v (ty.Arrow a b)) (sym (out_lam a body)) (b, refl, k)
+inverted {ctx = ctx} {a = a} (HasType.var n p is) = subst (λ v. Premises ctx v a) (sym (out_var n)) (p, is)
+inverted {ctx = ctx} (HasType.lam a {b} body is k) = subst (λ v. Premises ctx v (ty.Arrow a b)) (sym (out_lam a body)) (b, refl, is, k)
 inverted {ctx = ctx} {a = b} (HasType.app {a = a} f e k l) = subst (λ v. Premises ctx v b) (sym (out_app f e)) (a, k, l)
 inverted {ctx = ctx} (HasType.tup ts types l ks) = subst (λ v. Premises ctx v (ty.Tup types)) (sym (out_tup ts)) (types, refl, l, ks)
 inverted {ctx = ctx} {a = a} (HasType.proj i e types l p k) = subst (λ v. Premises ctx v a) (sym (out_proj (i + 1) (length types) e)) (i, types, refl, refl, l, p, k)
 
-pub of_var : (ctx : List Ty) (n : ℕ) (a : Ty) → HasType ctx (term.Var n) a → slice_get ctx n ≡ Some a
+pub of_var : (ctx : List Ty) (n : ℕ) (a : Ty) → HasType ctx (term.Var n) a → (slice_get ctx n ≡ Some a) × IsType a
 of_var ctx n a k = subst (λ v. Premises ctx v a) (out_var n) (inverted k)
 
-pub of_lam : (ctx : List Ty) (a : Ty) (body : Term) (c : Ty) → HasType ctx (term.Lam a body) c → (b : Ty) × (c ≡ ty.Arrow a b) × HasType (ctx ++ a ∷ []) body b
+pub of_lam : (ctx : List Ty) (a : Ty) (body : Term) (c : Ty) → HasType ctx (term.Lam a body) c → (b : Ty) × (c ≡ ty.Arrow a b) × IsType a × HasType (ctx ++ a ∷ []) body b
 of_lam ctx a body c k = subst (λ v. Premises ctx v c) (out_lam a body) (inverted k)
 
 pub of_app : (ctx : List Ty) (f e : Term) (b : Ty) → HasType ctx (term.App f e) b → (a : Ty) × HasType ctx f (ty.Arrow a b) × HasType ctx e a
@@ -69,9 +70,9 @@ same_place i k e = omega (arith, e)
 
 mutual
   pub one_type : {ctx : List Ty} {t : Term} {a : Ty} → HasType ctx t a → (b : Ty) → HasType ctx t b → a ≡ b
-  one_type {ctx = ctx} {a = a} (HasType.var n p) b k = some_is a b (sym p ∙ of_var ctx n b k)
-  one_type {ctx = ctx} (HasType.lam a body k) c l =
-      let (b, e, m) = of_lam ctx a body c l in
+  one_type {ctx = ctx} {a = a} (HasType.var n p is) b k = some_is a b (sym p ∙ (of_var ctx n b k).0)
+  one_type {ctx = ctx} (HasType.lam a body is k) c l =
+      let (b, e, js, m) = of_lam ctx a body c l in
       ap (ty.Arrow a) (one_type k b m) ∙ sym e
   one_type {ctx = ctx} {a = b} (HasType.app {a = a} f e k l) c m =
       let (d, g, h) = of_app ctx f e c m in

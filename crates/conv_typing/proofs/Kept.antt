@@ -8,6 +8,7 @@ use Rattle.conv_terms.specs.Shifting.{shifted}
 use Rattle.conv_typing.specs.Typing.{HasType, HaveTypes}
 use Rattle.conv_typing.specs.Conversion.{Converts, ConvertEach, projections}
 use Rattle.conv_typing.proofs.Inversion.{some_is, none_not}
+use Rattle.conv_typing.proofs.TypesAlone.{has_type_is_type, argument_is_type}
 use Rattle.conv_typing.proofs.Weakening.{get_right, shifted_typed_end, substituted_typed, one_more}
 
 -- what converts has the type
@@ -40,18 +41,18 @@ all_projections ctx e types less k =
     subst (λ i. HaveTypes ctx (projections e (length types) i (length types)) types) one (projections_typed ctx e types less k [] types refl)
 
 pub expanded_typed : (ctx : List Ty) (a b : Ty) (f : Term) → HasType ctx f (ty.Arrow a b) → HasType ctx (term.Lam a (term.App (shifted (length ctx) 1 f) (term.Var (length ctx)))) (ty.Arrow a b)
-expanded_typed ctx a b f k = HasType.lam a _ (HasType.app _ _ (shifted_typed_end ctx (a ∷ []) f (ty.Arrow a b) k) (HasType.var (length ctx) (last_type ctx a)))
+expanded_typed ctx a b f k = HasType.lam a _ (argument_is_type a b k) (HasType.app _ _ (shifted_typed_end ctx (a ∷ []) f (ty.Arrow a b) k) (HasType.var (length ctx) (last_type ctx a) (argument_is_type a b k)))
 
 mutual
   pub converts_typed : {ctx : List Ty} {a : Ty} {t u : Term} → Converts ctx a t u → HasType ctx t a × HasType ctx u a
   converts_typed (Converts.same k) = (k, k)
   converts_typed (Converts.back k) = ((converts_typed k).1, (converts_typed k).0)
   converts_typed (Converts.chain k l) = ((converts_typed k).0, (converts_typed l).1)
-  converts_typed (Converts.lam a t u k) = (HasType.lam a t (converts_typed k).0, HasType.lam a u (converts_typed k).1)
+  converts_typed (Converts.lam a t u is k) = (HasType.lam a t is (converts_typed k).0, HasType.lam a u is (converts_typed k).1)
   converts_typed (Converts.app f g t u k l) = (HasType.app f t (converts_typed k).0 (converts_typed l).0, HasType.app g u (converts_typed k).1 (converts_typed l).1)
   converts_typed (Converts.tup types ts us l ks) = (HasType.tup ts types l (each_typed ks).0, HasType.tup us types l (each_typed ks).1)
   converts_typed (Converts.proj i types t u less l k) = (HasType.proj i t types less l (converts_typed k).0, HasType.proj i u types less l (converts_typed k).1)
-  converts_typed {ctx = ctx} (Converts.beta a {b} t e k l) = (HasType.app (term.Lam a t) e (HasType.lam a t k) l, substituted_typed ctx a e t b l k)
+  converts_typed {ctx = ctx} (Converts.beta a {b} t e k l) = (HasType.app (term.Lam a t) e (HasType.lam a t (has_type_is_type l) k) l, substituted_typed ctx a e t b l k)
   converts_typed {a = a} (Converts.part i types ts t l ks p q) = (HasType.proj i (term.Tup ts) types l p (HasType.tup ts types l ks), at_place ks i a t p q)
   converts_typed {ctx = ctx} (Converts.eta a b f k) = (expanded_typed ctx a b f k, k)
   converts_typed {ctx = ctx} (Converts.whole types e l k) = (HasType.tup _ types l (all_projections ctx e types l k), k)

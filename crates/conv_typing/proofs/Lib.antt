@@ -1,6 +1,7 @@
 pub mod Ends
 pub mod Types
 pub mod Inversion
+pub mod TypesAlone
 pub mod Deciding
 pub mod Weakening
 pub mod Kept

@@ -2,6 +2,7 @@
 use Rattle.std.proofs.Common.{◌≡◌, ℕ, ◌+◌, ◌-◌, List, [], ◌∷◌, ◌++◌, map, refl, sym, ap, ◌∙◌, subst, subst₂, arith, ◌<◌, ◌≤◌, ◌⊎◌, inl, inr, length, slice_get, Some, zero, suc, append_assoc, append-nil, length-append, if◌then◌else◌, lt-ltb, le-ltb}
 use Rattle.type_core.specs.declared.ty.Ty.{Ty}
 use Rattle.type_core.specs.declared.ty.Ty.TheVariants as ty
+use Rattle.type_core.specs.Types.{IsType}
 use Rattle.conv_terms.specs.declared.term.Term.{Term}
 use Rattle.conv_terms.specs.declared.term.Term.TheVariants as term
 use Rattle.conv_terms.specs.Shifting.{raised, shifted}
@@ -26,7 +27,7 @@ get_right (a ∷ g) d (suc n) h =
 
 -- below inner binders too, what becomes of a variable of the one context has its type in the other
 abbrev pub Fits : Images → List Ty → List Ty → Type 0
-Fits at g h = (inner : List Ty) (n : ℕ) (a : Ty) → slice_get (g ++ inner) n ≡ Some a → HasType (h ++ inner) (at n (length inner)) a
+Fits at g h = (inner : List Ty) (n : ℕ) (a : Ty) → slice_get (g ++ inner) n ≡ Some a → IsType a → HasType (h ++ inner) (at n (length inner)) a
 
 pub longer : (g inner ctx : List Ty) (a : Ty) → ctx ≡ g ++ inner → ctx ++ a ∷ [] ≡ g ++ (inner ++ a ∷ [])
 longer g inner ctx a is = ap (λ x. x ++ a ∷ []) is ∙ append_assoc g inner (a ∷ [])
@@ -37,12 +38,12 @@ one_more inner a = grind (arith, length-append)
 module _ (at : Images) (g h : List Ty) (fits : Fits at g h) where
   mutual
     pub traversed_typed : {ctx : List Ty} {t : Term} {a : Ty} → HasType ctx t a → (inner : List Ty) → ctx ≡ g ++ inner → HasType (h ++ inner) (traversed at t (length inner)) a
-    traversed_typed {a = a} (HasType.var n p) inner is =
-        subst (λ t. HasType (h ++ inner) t a) (sym (traversed_var at n (length inner))) (fits inner n a (subst (λ x. slice_get x n ≡ Some a) is p))
-    traversed_typed {ctx = ctx} (HasType.lam a {b} body k) inner is =
+    traversed_typed {a = a} (HasType.var n p l) inner is =
+        subst (λ t. HasType (h ++ inner) t a) (sym (traversed_var at n (length inner))) (fits inner n a (subst (λ x. slice_get x n ≡ Some a) is p) l)
+    traversed_typed {ctx = ctx} (HasType.lam a {b} body l k) inner is =
         let below = traversed_typed k (inner ++ a ∷ []) (longer g inner ctx a is) in
         subst (λ t. HasType (h ++ inner) t (ty.Arrow a b)) (sym (traversed_lam at a body (length inner)))
-        (HasType.lam a _ (subst₂ (λ x d. HasType x (traversed at body d) b) (sym (append_assoc h inner (a ∷ []))) (one_more inner a) below))
+        (HasType.lam a _ l (subst₂ (λ x d. HasType x (traversed at body d) b) (sym (append_assoc h inner (a ∷ []))) (one_more inner a) below))
     traversed_typed {a = b} (HasType.app f e k l) inner is =
         subst (λ t. HasType (h ++ inner) t b) (sym (traversed_app at f e (length inner))) (HasType.app _ _ (traversed_typed k inner is) (traversed_typed l inner is))
     traversed_typed (HasType.tup terms types less ks) inner is =
@@ -55,7 +56,7 @@ module _ (at : Images) (g h : List Ty) (fits : Fits at g h) where
     traversed_each (HaveTypes.more k ks) inner is = HaveTypes.more (traversed_typed k inner is) (traversed_each ks inner is)
 
 pub shift_fits : (g x : List Ty) → Fits (raising (length g) (length x)) g (g ++ x)
-shift_fits g x d n a l = HasType.var (raised (length g) (length x) n) (cases (below_or_from n (length g)))
+shift_fits g x d n a l is = HasType.var (raised (length g) (length x) n) (cases (below_or_from n (length g))) is
   where
     cases : (n < length g) ⊎ (length g ≤ n) → slice_get ((g ++ x) ++ d) (raised (length g) (length x) n) ≡ Some a
     cases (inl h) =
@@ -77,15 +78,15 @@ shifted_typed_end g x t a k = subst (λ c. HasType c (shifted (length g) (length
 
 -- terms for all variables
 pub terms_fit : (terms : ℕ → Term) (g h : List Ty) → AreTyped terms g h → Fits (images (length g) (length h) terms) g h
-terms_fit terms g h typed d n a l = cases (below_or_from n (length g))
+terms_fit terms g h typed d n a l is = cases (below_or_from n (length g))
   where
     cases : (n < length g) ⊎ (length g ≤ n) → HasType (h ++ d) (images (length g) (length h) terms n (length d)) a
-    cases (inl i) = subst (λ t. HasType (h ++ d) t a) (sym (images_known (length g) (length h) terms n (length d) i)) (shifted_typed_end h d (terms n) a (typed n a (sym (get_left g d n i) ∙ l)))
+    cases (inl i) = subst (λ t. HasType (h ++ d) t a) (sym (images_known (length g) (length h) terms n (length d) i)) (shifted_typed_end h d (terms n) a (typed n a (sym (get_left g d n i) ∙ l) is))
     cases (inr i) =
         let high : length h ≤ n - length g + length h = omega arith in
         let e : n - length g + length h - length h ≡ n - length g = omega arith in
         subst (λ t. HasType (h ++ d) t a) (sym (images_other (length g) (length h) terms n (length d) i))
-        (HasType.var _ (get_right h d _ high ∙ ap (slice_get d) e ∙ sym (get_right g d n i) ∙ l))
+        (HasType.var _ (get_right h d _ high ∙ ap (slice_get d) e ∙ sym (get_right g d n i) ∙ l) is)
 
 pub all_typed : (ctx others inner : List Ty) (terms : ℕ → Term) (t : Term) (a : Ty) → AreTyped terms ctx others → HasType (ctx ++ inner) t a → HasType (others ++ inner) (substituted_all (length ctx) (length others) terms t (length inner)) a
 all_typed ctx others inner terms t a typed k = traversed_typed (images (length ctx) (length others) terms) ctx others (terms_fit terms ctx others typed) k inner refl
@@ -96,10 +97,10 @@ alone b a zero p = some_is b a p
 alone b a (suc n) p = absurd (none_not a p)
 
 only_typed : (g : List Ty) (b : Ty) (e : Term) → HasType g e b → AreTyped (only (length g) e) (g ++ b ∷ []) g
-only_typed g b e k n a p = cases (below_or_from n (length g))
+only_typed g b e k n a p is = cases (below_or_from n (length g))
   where
     cases : (n < length g) ⊎ (length g ≤ n) → HasType g (only (length g) e n) a
-    cases (inl h) = subst (λ c. HasType g (if c then term.Var n else e) a) (sym (lt-ltb n (length g) h)) (HasType.var n (sym (get_left g (b ∷ []) n h) ∙ p))
+    cases (inl h) = subst (λ c. HasType g (if c then term.Var n else e) a) (sym (lt-ltb n (length g) h)) (HasType.var n (sym (get_left g (b ∷ []) n h) ∙ p) is)
     cases (inr h) = subst₂ (λ c x. HasType g (if c then term.Var n else e) x) (sym (le-ltb n (length g) h)) (alone b a _ (sym (get_right g (b ∷ []) n h) ∙ p)) k
 
 pub substituted_typed : (g : List Ty) (b : Ty) (e t : Term) (a : Ty) → HasType g e b → HasType (g ++ b ∷ []) t a → HasType g (substituted (length g) e t) a

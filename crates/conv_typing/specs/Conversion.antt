@@ -2,6 +2,7 @@
 use Rattle.std.specs.Prelude.{◌≡◌, ◌≢◌, ℕ, ◌+◌, List, [], ◌∷◌, ◌++◌, length, slice_get, Some, zero, suc}
 use Rattle.type_core.specs.declared.ty.Ty.{Ty}
 use Rattle.type_core.specs.declared.ty.Ty.TheVariants as ty
+use Rattle.type_core.specs.Types.{IsType}
 use Rattle.conv_terms.specs.declared.term.Term.{Term}
 use Rattle.conv_terms.specs.declared.term.Term.TheVariants as term
 use Rattle.conv_terms.specs.Shifting.{shifted}
@@ -21,7 +22,7 @@ mutual
     same : {ctx : List Ty} {a : Ty} {t : Term} → HasType ctx t a → Converts ctx a t t
     back : {ctx : List Ty} {a : Ty} {t u : Term} → Converts ctx a t u → Converts ctx a u t
     chain : {ctx : List Ty} {a : Ty} {t u v : Term} → Converts ctx a t u → Converts ctx a u v → Converts ctx a t v
-    lam : {ctx : List Ty} (a : Ty) {b : Ty} (t u : Term) → Converts (ctx ++ a ∷ []) b t u → Converts ctx (ty.Arrow a b) (term.Lam a t) (term.Lam a u)
+    lam : {ctx : List Ty} (a : Ty) {b : Ty} (t u : Term) → IsType a → Converts (ctx ++ a ∷ []) b t u → Converts ctx (ty.Arrow a b) (term.Lam a t) (term.Lam a u)
     app : {ctx : List Ty} {a b : Ty} (f g t u : Term) → Converts ctx (ty.Arrow a b) f g → Converts ctx a t u → Converts ctx b (term.App f t) (term.App g u)
     tup : {ctx : List Ty} (types : List Ty) (ts us : List Term) → length types ≢ 1 → ConvertEach ctx types ts us → Converts ctx (ty.Tup types) (term.Tup ts) (term.Tup us)
     proj : {ctx : List Ty} {a : Ty} (i : ℕ) (types : List Ty) (t u : Term) → length types ≢ 1 → slice_get types i ≡ Some a → Converts ctx (ty.Tup types) t u → Converts ctx a (term.Proj (i + 1) (length types) t) (term.Proj (i + 1) (length types) u)

@@ -1,9 +1,10 @@
 -- What is answered for the type of a term: the type that it has, or that it has none.
-use Rattle.std.specs.Prelude.{◌≡◌, ℕ, ◌==◌, if◌then◌else◌, List, length, slice_get, Option, Some, None, zero, suc}
+use Rattle.std.specs.Prelude.{◌≡◌, ℕ, ◌==◌, if◌then◌else◌, List, length, slice_get, Option, option_map, Some, None, zero, suc}
 use Rattle.type_core.specs.declared.ty.Ty.{Ty, out-Ty}
 use Rattle.type_core.specs.declared.ty.Field.{Field}
 use Rattle.type_core.specs.declared.ty.Ty.TheVariants as ty
 use Rattle.type_core.specs.declared.ty.Ty.TheOpen.{Ty-F, Tup}
+use Rattle.type_core.specs.Types.{is_type}
 use Rattle.conv_terms.specs.declared.term.Term.{Term}
 use Rattle.conv_typing.specs.Typing.{HasType, HaveTypes}
 
@@ -16,6 +17,15 @@ IsTypeOf ctx t None = (a : Ty) → ¬ (HasType ctx t a)
 abbrev pub AreTypesOf : List Ty → List Term → Option (List Ty) → Type 0
 AreTypesOf ctx terms (Some types) = HaveTypes ctx terms types
 AreTypesOf ctx terms None = (types : List Ty) → ¬ (HaveTypes ctx terms types)
+
+-- this, where it is a type
+abbrev pub if_type : Option Ty → Option Ty
+if_type (Some a) = if is_type a then Some a else None
+if_type None = None
+
+-- the function type from this one to that one, where the first is a type
+abbrev pub function_from : Ty → Option Ty → Option Ty
+function_from a b = if is_type a then option_map (ty.Arrow a) b else None
 
 -- a function type to this one, and its argument's type; or there is no such function type
 abbrev pub IsResult : Option Ty → Option Ty → Option Ty → Type 0

@@ -2,6 +2,7 @@
 ghost use Rattle.std.specs.Prelude.{◌≡◌, ◌≢◌, ◌++◌, ◌∷◌, [], ◌+◌, ℕ, List, length, slice_get, Some};
 ghost use Rattle.type_core.specs.declared.ty.Ty.{Ty};
 ghost use Rattle.type_core.specs.declared.ty.Ty.TheVariants as ty;
+ghost use Rattle.type_core.specs.Types.{IsType};
 ghost use Rattle.conv_terms.specs.declared.term.Term.{Term};
 ghost use Rattle.conv_terms.specs.declared.term.Term.TheVariants as term;
 ghost use Rattle.conv_terms.specs.Shifting.{shifted};
@@ -21,9 +22,9 @@ pub fn conversion_is_an_equivalence()
     ensures transitive { (ctx : List Ty) (a : Ty) (t u v : Term) → Converts ctx a t u → Converts ctx a u v → Converts ctx a t v }
 {}
 
-/// Conversion is kept by every form of term.
+/// Conversion is kept by every form of term; an abstraction is one over a type.
 pub fn forms_keep_conversion()
-    ensures abstraction { (ctx : List Ty) (a b : Ty) (t u : Term) → Converts (ctx ++ a ∷ []) b t u → Converts ctx (ty.Arrow a b) (term.Lam a t) (term.Lam a u) }
+    ensures abstraction { (ctx : List Ty) (a b : Ty) (t u : Term) → IsType a → Converts (ctx ++ a ∷ []) b t u → Converts ctx (ty.Arrow a b) (term.Lam a t) (term.Lam a u) }
     ensures application { (ctx : List Ty) (a b : Ty) (f g t u : Term) → Converts ctx (ty.Arrow a b) f g → Converts ctx a t u → Converts ctx b (term.App f t) (term.App g u) }
     ensures tuple { (ctx types : List Ty) (ts us : List Term) → length types ≢ 1 → ConvertEach ctx types ts us → Converts ctx (ty.Tup types) (term.Tup ts) (term.Tup us) }
     ensures projection { (ctx types : List Ty) (i : ℕ) (a : Ty) (t u : Term) → length types ≢ 1 → slice_get types i ≡ Some a → Converts ctx (ty.Tup types) t u → Converts ctx a (term.Proj (i + 1) (length types) t) (term.Proj (i + 1) (length types) u) }

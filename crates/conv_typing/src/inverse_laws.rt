@@ -1,11 +1,12 @@
 // Laws of inverse pairs.
 ghost use Rattle.type_core.specs.declared.ty.Ty.{Ty};
+ghost use Rattle.type_core.specs.Types.{IsType};
 ghost use Rattle.conv_terms.specs.declared.term.Term.{Term};
 ghost use Rattle.conv_typing.specs.InversePair.{IsInversePair, identity};
 
 /// The identity of a type undoes itself.
 pub fn identities_are_inverse()
-    ensures law { (a : Ty) → IsInversePair a a (identity a) (identity a) }
+    ensures law { (a : Ty) → IsType a → IsInversePair a a (identity a) (identity a) }
 {}
 
 /// An inverse pair turned round is one.

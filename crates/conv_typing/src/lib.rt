@@ -20,5 +20,6 @@ pub use conversion_laws::{
 pub use inverse_laws::{identities_are_inverse, inverse_pairs_turn_round};
 pub use typing::type_of;
 pub use typing_laws::{
-    shifting_keeps_types, substituting_all_keeps_types, substitution_keeps_types, types_are_unique,
+    shifting_keeps_types, substituting_all_keeps_types, substitution_keeps_types,
+    typed_terms_have_types, types_are_unique,
 };

@@ -136,3 +136,21 @@ fn no_tuple_has_one_component(rt: HostRuntime) -> Result<(), Fail> {
     assert!(rt; has_type(alloc, one(alloc, wrapped)?, t, b"")?);
     Ok(())
 }
+
+#[test]
+fn no_variable_has_a_type_that_is_none(rt: HostRuntime) -> Result<(), Fail> {
+    let alloc = rt.alloc();
+    let wrapped = Ty::Tup(one(alloc, int(alloc))?);
+    let identity = abstraction(alloc, wrapped, Term::Var(0))?;
+    assert!(rt; has_type(alloc, List::new(alloc), identity, b"")?);
+    let wrapped = Ty::Tup(one(alloc, int(alloc))?);
+    let constant = abstraction(alloc, wrapped, Term::Tup(List::new(alloc)))?;
+    assert!(rt; has_type(alloc, List::new(alloc), constant, b"")?);
+    let cases = [(0, b"".as_slice()), (1, b"int".as_slice())];
+    for (level, wanted) in cases {
+        let wrapped = Ty::Tup(one(alloc, int(alloc))?);
+        let ctx = two(alloc, wrapped, int(alloc))?;
+        assert!(rt; has_type(alloc, ctx, Term::Var(level), wanted)?);
+    }
+    Ok(())
+}

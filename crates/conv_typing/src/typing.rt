@@ -1,14 +1,30 @@
 // The type of a term.
-ghost use Rattle.std.specs.Prelude.{◌≡◌, ◌++◌, ◌∷◌, [], ◌↔◌, slice_get, option_map, Some, None, List, IfOk, OnOk};
+ghost use Rattle.std.specs.Prelude.{◌≡◌, ◌++◌, ◌∷◌, [], ◌↔◌, slice_get, Some, None, List, IfOk, OnOk};
 ghost use Rattle.type_core.specs.declared.ty.Ty.{Ty};
 ghost use Rattle.type_core.specs.declared.ty.Ty.TheVariants as ty;
 ghost use Rattle.conv_typing.specs.Typing.{HasType};
-ghost use Rattle.conv_typing.specs.TypeOf.{IsTypeOf, AreTypesOf, IsResult, tuple_of, component};
+ghost use Rattle.conv_typing.specs.TypeOf.{IsTypeOf, AreTypesOf, IsResult, if_type, function_from, tuple_of, component};
 
 use conv_terms::Term;
 use sig_base::{Boxed, List, NoMemory};
 use std::alloc::Global;
-use type_core::{Ty, copy, copy_all, same};
+use type_core::{Ty, copy, copy_all, is_proper_type, same};
+
+/// The type of the variable of this level, where the context has a type for it.
+fn variable_type(alloc: Global, ctx: &[Ty], level: u32) -> Result<Option<Ty>, NoMemory>
+    ensures value { IfOk result (λ r. r ≡ if_type (slice_get ctx.now level)) }
+{
+    match ctx.get(level as usize) {
+        Some(own) => {
+            if !is_proper_type(own) {
+                return Ok(None);
+            }
+            let own = copy(alloc, own)?;
+            Ok(Some(own))
+        }
+        None => Ok(None),
+    }
+}
 
 fn type_at(alloc: Global, types: &[Ty], place: u32) -> Result<Option<Ty>, NoMemory>
     ensures value { IfOk result (λ r. r ≡ slice_get types.now place) }
@@ -29,10 +45,13 @@ fn leave(ctx: &mut List<Ty>)
     ctx.pop();
 }
 
-/// The type of an abstraction, by that of its body.
+/// The type of an abstraction over `a`, by that of its body.
 fn function_type(alloc: Global, a: &Ty, body: Option<Ty>) -> Result<Option<Ty>, NoMemory>
-    ensures value { IfOk result (λ r. r ≡ option_map (ty.Arrow a.now) body) }
+    ensures value { IfOk result (λ r. r ≡ function_from a.now body) }
 {
+    if !is_proper_type(a) {
+        return Ok(None);
+    }
     match body {
         Some(b) => {
             let a = copy(alloc, a)?;
@@ -98,7 +117,7 @@ fn find_type(alloc: Global, t: &Term, ctx: &mut List<Ty>) -> Result<Option<Ty>, 
     ensures kept { OnOk result (ctx.new ≡ ctx.old) }
 {
     match t {
-        Term::Var(n) => type_at(alloc, ctx.as_slice(), *n),
+        Term::Var(n) => variable_type(alloc, ctx.as_slice(), *n),
         Term::Lam(a, body) => {
             ctx.push(copy(alloc, a.get())?)?;
             let b = find_type(alloc, body.get(), ctx)?;

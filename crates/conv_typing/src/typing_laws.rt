@@ -1,10 +1,16 @@
 // Laws of typing.
 ghost use Rattle.std.specs.Prelude.{◌≡◌, ◌++◌, ◌∷◌, [], ℕ, List, length};
 ghost use Rattle.type_core.specs.declared.ty.Ty.{Ty};
+ghost use Rattle.type_core.specs.Types.{IsType};
 ghost use Rattle.conv_terms.specs.declared.term.Term.{Term};
 ghost use Rattle.conv_terms.specs.Shifting.{shifted};
 ghost use Rattle.conv_terms.specs.Substitution.{substituted, substituted_all};
 ghost use Rattle.conv_typing.specs.Typing.{HasType, AreTyped};
+
+/// Every type that a term has is a type.
+pub fn typed_terms_have_types()
+    ensures law { (ctx : List Ty) (t : Term) (a : Ty) → HasType ctx t a → IsType a }
+{}
 
 /// A term has at most one type.
 pub fn types_are_unique()

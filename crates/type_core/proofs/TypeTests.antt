@@ -1,5 +1,5 @@
 -- The equations of the tests for types.
-use Rattle.std.proofs.Common.{◌≡◌, ℕ, ◌&&◌, Bool, true, not, List, [], ◌∷◌, map, length, nat_eq, slice_get, refl, sym, ap, ap₂, ◌∙◌}
+use Rattle.std.proofs.Common.{◌≡◌, ◌≢◌, ℕ, ◌&&◌, Bool, true, false, true≢false, not, List, [], ◌∷◌, map, length, nat_eq, slice_get, unwrap_or, Option, Some, None, refl, sym, ap, ap₂, subst, ◌∙◌, eqb-true, zero, suc}
 use Rattle.std.proofs.lemmas.List.{length-map}
 use Rattle.type_core.specs.declared.ty.VarId.{VarId}
 use Rattle.type_core.specs.declared.ty.NameId.{NameId}
@@ -48,6 +48,50 @@ is_type_tup ts = ap is_type (sym (rolls-Tup ts)) ∙ fold-roll-Ty _ _ type_step 
 pub is_type_arrow : (a b : Ty) → is_type (ty.Arrow a b) ≡ (is_type a && is_type b)
 unfolding is_type
 is_type_arrow a b = ap is_type (sym (rolls-Arrow a b)) ∙ fold-roll-Ty _ _ type_step type_field_step _
+
+-- what is a type by its parts, and the parts of what is one
+both : (x y : Bool) → (x && y) ≡ true → (x ≡ true) × (y ≡ true)
+both true y e = (refl, e)
+both false y e = absurd (true≢false (sym e))
+
+pub arrow_is_type : (a b : Ty) → IsType a → IsType b → IsType (ty.Arrow a b)
+arrow_is_type a b k l = is_type_arrow a b ∙ ap₂ ◌&&◌ k l
+
+pub sides_are_types : (a b : Ty) → IsType (ty.Arrow a b) → IsType a × IsType b
+sides_are_types a b k = both (is_type a) (is_type b) (sym (is_type_arrow a b) ∙ k)
+
+not_one : (n : ℕ) → n ≢ 1 → not (nat_eq n 1) ≡ true
+not_one n l = go (nat_eq n 1) refl
+  where
+    go : (b : Bool) → nat_eq n 1 ≡ b → not b ≡ true
+    go true e = absurd (l (eqb-true n 1 e))
+    go false e = refl
+
+one_not : (n : ℕ) → not (nat_eq n 1) ≡ true → n ≢ 1
+one_not n k e = true≢false (sym k ∙ ap (λ m. not (nat_eq m 1)) e)
+
+pub tuple_is_type : (ts : List Ty) → length ts ≢ 1 → all_true (map is_type ts) ≡ true → IsType (ty.Tup ts)
+tuple_is_type ts l k = is_type_tup ts ∙ ap₂ ◌&&◌ (not_one (length ts) l) k
+
+pub components_are_types : (ts : List Ty) → IsType (ty.Tup ts) → (length ts ≢ 1) × (all_true (map is_type ts) ≡ true)
+components_are_types ts k =
+    let tests = both (not (nat_eq (length ts) 1)) (all_true (map is_type ts)) (sym (is_type_tup ts) ∙ k) in
+    (one_not (length ts) tests.0, tests.1)
+
+pub all_are_types : (t : Ty) (ts : List Ty) → all_true (map is_type (t ∷ ts)) ≡ true → IsType t × (all_true (map is_type ts) ≡ true)
+all_are_types t ts k = both (is_type t) (all_true (map is_type ts)) k
+
+pub each_is_type : (ts : List Ty) (i : ℕ) (a : Ty) → all_true (map is_type ts) ≡ true → slice_get ts i ≡ Some a → IsType a
+each_is_type [] i a k p = absurd (is_none p)
+  where
+    IsThere : Option Ty → Type 0
+    IsThere (Some t) = Unit {0}
+    IsThere None = ⊥
+
+    is_none : None ≡ Some a → ⊥
+    is_none q = subst IsThere (sym q) tt
+each_is_type (t ∷ ts) zero a k p = subst IsType (ap (λ o. unwrap_or o t) p) (all_are_types t ts k).0
+each_is_type (t ∷ ts) (suc i) a k p = each_is_type ts i a (all_are_types t ts k).1 p
 
 pub ruleset type_tests = (is_type_var, is_type_con, is_type_rec, is_type_tup, is_type_arrow)
 

@@ -3,7 +3,7 @@
 //! A type is a tree `Ty` whose leaves are variables and names. `close` makes it a scheme, whose variables
 //! are numbered from 0 by first occurrence; so two schemes that differ in the names of their variables
 //! alone are one tree, which `equal_schemes` relies on. `size`, `height` and `normal_size` measure a type,
-//! `is_type` and `admits_equality` tell what it is, `copy`, `substitute` and `apply_fn` make others of it,
+//! `is_proper_type`, `is_type` and `admits_equality` tell what it is, `copy`, `substitute` and `apply_fn` make others of it,
 //! and `print_type` and `print_scheme` write it. A `Library` holds what files describe.
 #![tactic(auto)]
 
@@ -44,7 +44,7 @@ pub use printing::{Place, print_scheme, print_type};
 pub use substitution::{copy, copy_all, has_variables_below, substitute};
 pub use ty::{Field, NameId, Scheme, Ty, VarId};
 pub use type_fn::{TypeFn, apply_fn, is_type_fn};
-pub use types::is_type;
+pub use types::{is_proper_type, is_type};
 
 #[cfg(test)]
 mod tests;

@@ -4,8 +4,9 @@ ghost use Rattle.type_core.specs.Schemes.{IsScheme};
 
 use crate::{
     Equality, Field, NameId, Scheme, Ty, TypeFn, TypeName, VarId, admits_equality, apply_fn, close,
-    compare_labels, copy, equal_schemes, has_variables_below, height, initial_names, is_type,
-    is_type_fn, normal_size, print_scheme, print_type, same, size, substitute,
+    compare_labels, copy, equal_schemes, has_variables_below, height, initial_names,
+    is_proper_type, is_type, is_type_fn, normal_size, print_scheme, print_type, same, size,
+    substitute,
 };
 use sig_base::{Boxed, List, NoMemory, Text};
 use std::alloc::Global;
@@ -358,5 +359,7 @@ fn types_are_told(rt: HostRuntime) -> Result<(), Fail> {
     assert!(rt; !is_type(&names, &ints(alloc, 1)?));
     assert!(rt; !is_type(&names, &applied(alloc, 0, unit(alloc))?));
     assert!(rt; !is_type(&names, &named(alloc, 15)));
+    assert!(rt; is_proper_type(&named(alloc, 15)));
+    assert!(rt; !is_proper_type(&ints(alloc, 1)?));
     Ok(())
 }

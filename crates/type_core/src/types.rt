@@ -14,12 +14,14 @@ use sig_base::List;
 pub fn is_type(names: &List<TypeName>, t: &Ty) -> bool
     ensures value { IsTrue result ↔ IsTypeOver names.now t.now }
 {
-    is_proper(t) && is_over(t, names.as_slice())
+    is_proper_type(t) && is_over(t, names.as_slice())
 }
 
+/// Whether the tree is a type, whatever its names are: no tuple in it has one component, and each record is one
+/// that a type may have.
 #[cycle(proper)]
 #[tactic(auto, using(crate::proofs::TypeTests::type_tests, std::proofs::lemmas::Grind::common_steps))]
-fn is_proper(t: &Ty) -> bool
+pub fn is_proper_type(t: &Ty) -> bool
     ensures value { result ≡ is_type t.now }
 {
     match t {
@@ -27,7 +29,7 @@ fn is_proper(t: &Ty) -> bool
         Ty::Con(_, arguments) => all_proper(arguments.as_slice()),
         Ty::Rec(fields) => are_record_labels(fields.as_slice()) && fields_proper(fields.as_slice()),
         Ty::Tup(components) => components.len() != 1 && all_proper(components.as_slice()),
-        Ty::Arrow(from, to) => is_proper(from.get()) && is_proper(to.get()),
+        Ty::Arrow(from, to) => is_proper_type(from.get()) && is_proper_type(to.get()),
     }
 }
 
@@ -36,7 +38,7 @@ fn all_proper(parts: &[Ty]) -> bool
     ensures value { result ≡ all_true (map is_type parts.now) }
 {
     for part in parts {
-        if !is_proper(part) {
+        if !is_proper_type(part) {
             return false;
         }
     }
@@ -48,7 +50,7 @@ fn fields_proper(fields: &[Field]) -> bool
     ensures value { result ≡ all_true (map (λ field. is_type field.ty) fields.now) }
 {
     for field in fields {
-        if !is_proper(&field.ty) {
+        if !is_proper_type(&field.ty) {
             return false;
         }
     }

@@ -5,7 +5,7 @@ use Rattle.conv_typing.proofs.Deciding.{var_answer, lam_answer, app_answer, tup_
 use Rattle.conv_typing.proofs.typing.+typing.Goals as goal
 
 pub find_type-returns-in-Var-clause-value : goal.find_type-returns-in-Var-clause-value
-find_type-returns-in-Var-clause-value t c = var_answer _ _ _ _ _ c.in-Var.is c.as_slice.ensures.value c.type_at.ensures.value
+find_type-returns-in-Var-clause-value t c = var_answer _ _ _ _ _ c.in-Var.is c.as_slice.ensures.value c.variable_type.ensures.value
 
 pub find_type-returns-in_ok-b-in-Lam-clause-value : goal.find_type-returns-in_ok-b-in-Lam-clause-value
 find_type-returns-in_ok-b-in-Lam-clause-value t c =
