@@ -5,6 +5,8 @@ pub mod Maximal
 pub mod Parts
 pub mod Marks
 pub mod OneKind
+pub mod Nesting
+pub mod Dots
 pub mod Reading
 pub mod Laws
 pub mod Lines

@@ -1,3 +1,5 @@
+pub mod Comments
 pub mod Tokens
+pub mod Refusals
 pub mod Steps
 pub mod Places

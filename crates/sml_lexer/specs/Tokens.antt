@@ -1,14 +1,11 @@
 -- What the tokens of a text are: the Definition of Standard ML, sections 2.1 to 2.5 and 3.1, with numerals as the only special constants.
-use Rattle.std.specs.Prelude.{◌≡◌, ℕ, ◌+◌, ◌<◌, ◌≤◌, ◌⊎◌, List, [], ◌∷◌, length, slice_index, codes}
-use Rattle.std.specs.List.{between}
+use Rattle.std.specs.Prelude.{◌≡◌, ℕ, ◌+◌, ◌<◌, ◌≤◌, ◌⊎◌, List, [], ◌∷◌, ⊤, length, slice_index}
+use Rattle.std.specs.List.{All, between}
 use Rattle.sig_base.specs.Identifiers.{IsDigit, IsAlphanumericByte, IsSymbolicByte, OneThen, spelling, IsAlphanumeric, IsSymbolic}
-use Rattle.sig_base.specs.declared.word.Word.{Word}
-use Rattle.sig_base.specs.declared.word.Word.TheVariants as word
-use Rattle.sml_lexer.specs.declared.token.LexRefusal.{LexRefusal}
-use Rattle.sml_lexer.specs.declared.token.LexRefusal.TheVariants as refusal
 use Rattle.sml_lexer.specs.declared.token.Token.{Token}
 use Rattle.sml_lexer.specs.declared.token.TokenKind.{TokenKind}
 use Rattle.sml_lexer.specs.declared.token.TokenKind.TheVariants as kind
+use Rattle.sml_lexer.specs.Comments.{OpensAt, IsCommentAt}
 
 -- a byte that may stand between tokens: blank, tab, line end, form feed or carriage return
 abbrev pub IsSeparator : ℕ → Type 0
@@ -34,6 +31,7 @@ pub record IsSymbolicAt (bytes : List ℕ) (start end : ℕ) : Type 0 where
   pub identifier : IsSymbolic (between start end bytes)
   pub whole : end < length bytes → IsSymbolicByte (slice_index bytes end) → ⊥
 
+-- the same of an identifier of either sort
 abbrev pub IsIdentifierAt : List ℕ → ℕ → ℕ → Type 0
 IsIdentifierAt bytes start end = IsAlphanumericAt bytes start end ⊎ IsSymbolicAt bytes start end
 
@@ -51,10 +49,6 @@ StandsAt bytes kind.Sym start end = IsSymbolic (between start end bytes)
 StandsAt bytes kind.Long start end = IsLongAt bytes start end
 StandsAt bytes kind.Num start end = IsNumeral (between start end bytes)
 
--- a comment begins there
-abbrev pub IsCommentAt : List ℕ → ℕ → Type 0
-IsCommentAt bytes at = (slice_index bytes at ≡ 40) × (slice_index bytes (at + 1) ≡ 42)
-
 -- the longest of these at its place
 pub record IsLongestAt (bytes : List ℕ) (kind : TokenKind) (start end : ℕ) : Type 0 where
   pub begins : start < end
@@ -64,75 +58,42 @@ pub record IsLongestAt (bytes : List ℕ) (kind : TokenKind) (start end : ℕ) :
 
 -- the token at its place: the longest, where no comment begins
 abbrev pub IsTokenAt : List ℕ → TokenKind → ℕ → ℕ → Type 0
-IsTokenAt bytes kind start end = IsLongestAt bytes kind start end × (IsCommentAt bytes start → ⊥)
+IsTokenAt bytes kind start end = IsLongestAt bytes kind start end × (OpensAt bytes start → ⊥)
 
 -- no token begins there
 abbrev pub NoTokenAt : List ℕ → ℕ → Type 0
 NoTokenAt bytes at = (kind : TokenKind) (end : ℕ) → IsTokenAt bytes kind at end → ⊥
 
--- the reserved words that are read so far: those of letters, and ( ) : -> =
-abbrev pub IsBuiltWord : Word → Type 0
-IsBuiltWord word.KwLBracket = ⊥
-IsBuiltWord word.KwRBracket = ⊥
-IsBuiltWord word.KwLBrace = ⊥
-IsBuiltWord word.KwRBrace = ⊥
-IsBuiltWord word.KwComma = ⊥
-IsBuiltWord word.KwSemicolon = ⊥
-IsBuiltWord word.KwDots = ⊥
-IsBuiltWord word.KwUnderscore = ⊥
-IsBuiltWord word.KwBar = ⊥
-IsBuiltWord word.KwDArrow = ⊥
-IsBuiltWord word.KwHash = ⊥
-IsBuiltWord word.KwSeal = ⊥
-IsBuiltWord word = Unit {0}
+-- no dot stands from one place to another
+abbrev pub NoDot : List ℕ → ℕ → ℕ → Type 0
+NoDot bytes from to = (i : ℕ) → from ≤ i → i < to → slice_index bytes i ≡ 46 → ⊥
 
--- the tokens that are read so far: those words, type variables, alphanumeric identifiers and *
-abbrev pub IsBuilt : TokenKind → List ℕ → Type 0
-IsBuilt (kind.Reserved word) text = IsBuiltWord word
-IsBuilt kind.TyVar text = Unit {0}
-IsBuilt kind.Alpha text = Unit {0}
-IsBuilt kind.Sym text = text ≡ codes "*"
-IsBuilt kind.Long text = ⊥
-IsBuilt kind.Num text = ⊥
+-- no part of the token has more than 255 bytes: the parts of a long identifier are what stands between its dots, and every other token is its own one part
+abbrev pub IsShort : List ℕ → TokenKind → ℕ → ℕ → Type 0
+IsShort bytes kind.Long start end = (from to : ℕ) → start ≤ from → to ≤ end → NoDot bytes from to → to ≤ from + 255
+IsShort bytes kind start end = end ≤ start + 255
 
--- the token at its place is one that is read so far, and has at most 255 bytes
-pub record IsReadAt (bytes : List ℕ) (kind : TokenKind) (start end : ℕ) : Type 0 where
-  pub token : IsTokenAt bytes kind start end
-  pub built : IsBuilt kind (between start end bytes)
-  pub short : end ≤ start + 255
+-- separators and comments, from one place to another
+pub data IsGap (bytes : List ℕ) : ℕ → ℕ → Type 0 where
+  no_gap : {at : ℕ} → at ≤ length bytes → IsGap bytes at at
+  a_separator : {at to : ℕ} → IsSeparator (slice_index bytes at) → IsGap bytes (at + 1) to → IsGap bytes at to
+  a_comment : {at further to : ℕ} → IsCommentAt bytes at further → IsGap bytes further to → IsGap bytes at to
 
--- no token begins there that is read so far
-abbrev pub NothingReadAt : List ℕ → ℕ → Type 0
-NothingReadAt bytes at = (kind : TokenKind) (end : ℕ) → IsReadAt bytes kind at end → ⊥
-
--- nothing but separators from one place to another
-pub record Separators (bytes : List ℕ) (from to : ℕ) : Type 0 where
-  pub order : from ≤ to
-  pub within : to ≤ length bytes
-  pub each : (i : ℕ) → from ≤ i → i < to → IsSeparator (slice_index bytes i)
-
--- from one place to another the bytes are these tokens, with separators before, between and after them
+-- from one place to another the bytes are these tokens, none with a part of more than 255 bytes, and gaps before, between and after them
 abbrev pub Reads : List ℕ → ℕ → List Token → ℕ → Type 0
-Reads bytes from [] to = Separators bytes from to
-Reads bytes from (t ∷ ts) to = Separators bytes from t.span.start × IsReadAt bytes t.kind t.span.start t.span.end × Reads bytes t.span.end ts to
+Reads bytes from [] to = IsGap bytes from to
+Reads bytes from (t ∷ ts) to =
+    IsGap bytes from t.span.start × IsTokenAt bytes t.kind t.span.start t.span.end × IsShort bytes t.kind t.span.start t.span.end × Reads bytes t.span.end ts to
 
 -- the tokens of a text
 abbrev pub tokens : List ℕ → List Token → Type 0
 tokens bytes ts = Reads bytes 0 ts (length bytes)
 
+-- each token ends before every later one begins
+abbrev pub AreInOrder : List Token → Type 0
+AreInOrder [] = ⊤
+AreInOrder (t ∷ ts) = All (λ later. t.span.end ≤ later.span.start) ts × AreInOrder ts
+
 -- the text of a token
 abbrev pub text_of : List ℕ → Token → List ℕ
 text_of bytes t = between t.span.start t.span.end bytes
-
--- reading reaches the byte, which is no separator, and no token begins there that is read so far
-pub record NotBuiltAt (bytes : List ℕ) (at : ℕ) : Type 0 where
-  pub before : List Token
-  pub reached : Reads bytes 0 before at
-  pub within : at < length bytes
-  pub no_separator : IsSeparator (slice_index bytes at) → ⊥
-  pub nothing : NothingReadAt bytes at
-
--- what a refusal says of the text
-abbrev pub Refuses : List ℕ → LexRefusal → Type 0
-Refuses bytes (refusal.NotBuilt at) = NotBuiltAt bytes at
-Refuses bytes refusal.NoMemory = Unit {0}

@@ -35,6 +35,14 @@ pub fn is_separator(b: u8) -> bool
     b == b' ' || b == b'\t' || b == b'\n' || b == 12 || b == b'\r'
 }
 
+/// Whether a byte stands at a place.
+pub fn is_at(bytes: &[u8], at: usize, byte: u8) -> bool
+    requires { 0 < byte }
+    ensures { IsTrue result ↔ (slice_index bytes.now at ≡ byte) }
+{
+    at < bytes.len() && bytes[at] == byte
+}
+
 /// Where the letters, digits, primes and underbars from a place on end.
 pub fn alphanumeric_end(bytes: &[u8], from: usize) -> usize
     requires { from ≤ length bytes.now }

@@ -1,36 +1,47 @@
 // Reading a whole text.
-ghost use Rattle.std.specs.Prelude.{◌≡◌, ℕ, ◌<◌, ◌≤◌, ◌↔◌, ◌⊎◌, List, Ok, Err, length, IsTrue, IfOk, IfErr, MatchOption};
-ghost use Rattle.sml_lexer.specs.declared.token.LexRefusal.TheVariants.{NotBuilt, NoMemory};
+ghost use Rattle.std.specs.Prelude.{◌≡◌, ◌≤◌, ◌⊎◌, List, Ok, Err, length, IfOk, IfErr};
+ghost use Rattle.sml_lexer.specs.declared.token.LexRefusal.{LexRefusal};
+ghost use Rattle.sml_lexer.specs.declared.token.LexRefusal.TheVariants.{NoMemory};
 ghost use Rattle.sml_lexer.specs.declared.token.Token.{Token};
-ghost use Rattle.sml_lexer.specs.Tokens.{IsBuilt, IsBuiltWord, IsReadAt, NotBuiltAt, NothingReadAt, tokens, Refuses};
+ghost use Rattle.sml_lexer.specs.Refusals.{Refuses, Tells};
+ghost use Rattle.sml_lexer.specs.Tokens.{tokens};
 
 use crate::bytes::is_separator;
-use crate::longest::token_at;
-use crate::{LexRefusal, Token, TokenKind};
-use sig_base::{List, Span, Word};
+use crate::comments::{comment_end, is_opening};
+use crate::lengths::is_short;
+use crate::longest::longest_at;
+use crate::{LexRefusal, Token};
+use sig_base::{List, Span};
 use std::alloc::Global;
 
-const MAX_BYTES: usize = 255;
-
 /// The tokens of a text, in order, each the longest at its place (the Definition of Standard ML,
-/// sections 2.1 to 2.5 and 3.1). `NotBuilt` comes exactly where reading reaches a byte that is no
-/// separator and at which no token of at most 255 bytes begins that is read so far.
+/// sections 2.1 to 2.5 and 3.1). A refusal comes exactly where reading reaches its byte: `BadByte` where no
+/// separator, comment or token begins there, `OpenComment` where a comment begins there that isn't closed,
+/// `LongName` where the token that begins there has a part of more than 255 bytes.
 pub fn lex(alloc: Global, bytes: &[u8]) -> Result<List<Token>, LexRefusal>
     requires { length bytes.now ≤ 4194304 }
     ensures tokens { IfOk result (λ ts. tokens bytes.now ts) }
-    ensures refusal { IfErr result (λ refusal. Refuses bytes.now refusal) }
+    ensures refusal { IfErr result (λ refusal. Tells bytes.now refusal) }
     ensures only_tokens { (ts : List Token) → tokens bytes.now ts → (result ≡ Ok ts) ⊎ (result ≡ Err NoMemory) }
-    ensures only_refusal { (at : ℕ) → NotBuiltAt bytes.now at → (result ≡ Err (NotBuilt at)) ⊎ (result ≡ Err NoMemory) }
+    ensures only_refusal { (refusal : LexRefusal) → Refuses bytes.now refusal → (result ≡ Err refusal) ⊎ (result ≡ Err NoMemory) }
 {
     let mut out = List::new(alloc);
     let mut at: usize = 0;
     'bytes: while at < bytes.len() {
         if is_separator(bytes[at]) {
             at += 1;
+        } else if is_opening(bytes, at) {
+            match comment_end(bytes, at) {
+                None => return Err(LexRefusal::OpenComment(at as u32)),
+                Some(end) => at = end,
+            }
         } else {
-            match read_at(bytes, at) {
-                None => return Err(LexRefusal::NotBuilt(at as u32)),
+            match longest_at(bytes, at) {
+                None => return Err(LexRefusal::BadByte(at as u32)),
                 Some((kind, end)) => {
+                    if !is_short(bytes, kind, at, end) {
+                        return Err(LexRefusal::LongName(at as u32));
+                    }
                     let span = Span {
                         start: at as u32,
                         end: end as u32,
@@ -42,54 +53,4 @@ pub fn lex(alloc: Global, bytes: &[u8]) -> Result<List<Token>, LexRefusal>
         }
     }
     Ok(out)
-}
-
-/// The token at a place, where it is one that is read so far.
-fn read_at(bytes: &[u8], at: usize) -> Option<(TokenKind, usize)>
-    requires { at < length bytes.now }
-    ensures { MatchOption result (NothingReadAt bytes.now at) (λ t. IsReadAt bytes.now t.0 at t.1) }
-{
-    let (kind, end) = token_at(bytes, at)?;
-    if is_read(kind, &bytes[at..end]) {
-        Some((kind, end))
-    } else {
-        None
-    }
-}
-
-fn is_read(kind: TokenKind, text: &[u8]) -> bool
-    ensures { IsTrue result ↔ ((length text.now ≤ 255) × IsBuilt kind text.now) }
-{
-    text.len() <= MAX_BYTES && is_built(kind, text)
-}
-
-fn is_built(kind: TokenKind, text: &[u8]) -> bool
-    ensures { IsTrue result ↔ IsBuilt kind text.now }
-{
-    match kind {
-        TokenKind::Reserved(word) => is_built_word(word),
-        TokenKind::TyVar | TokenKind::Alpha => true,
-        TokenKind::Sym => text == b"*".as_slice(),
-        TokenKind::Long | TokenKind::Num => false,
-    }
-}
-
-fn is_built_word(word: Word) -> bool
-    ensures { IsTrue result ↔ IsBuiltWord word }
-{
-    match word {
-        Word::KwLBracket
-        | Word::KwRBracket
-        | Word::KwLBrace
-        | Word::KwRBrace
-        | Word::KwComma
-        | Word::KwSemicolon
-        | Word::KwDots
-        | Word::KwUnderscore
-        | Word::KwBar
-        | Word::KwDArrow
-        | Word::KwHash
-        | Word::KwSeal => false,
-        _ => true,
-    }
 }

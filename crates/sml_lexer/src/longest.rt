@@ -3,11 +3,11 @@ ghost use Rattle.std.specs.Prelude.{◌≡◌, ℕ, ◌+◌, ◌<◌, ◌≤◌,
 ghost use Rattle.std.specs.List.{between};
 ghost use Rattle.sig_base.specs.Identifiers.{IsLetter, IsSymbolicByte, spelling};
 ghost use Rattle.sig_base.specs.declared.word.Word.TheVariants.{KwDots};
-ghost use Rattle.sml_lexer.specs.Tokens.{IsAlphanumericAt, IsCommentAt, IsLongestAt, IsTokenAt, NoTokenAt};
+ghost use Rattle.sml_lexer.specs.Tokens.{IsAlphanumericAt, IsLongestAt};
 ghost use Rattle.sml_lexer.specs.Steps.{IsPartAt, NoIdentifierAt, NothingAt};
 
 use crate::TokenKind;
-use crate::bytes::{alphanumeric_end, digits_end, is_letter, is_symbolic, symbolic_end};
+use crate::bytes::{alphanumeric_end, digits_end, is_at, is_letter, is_symbolic, symbolic_end};
 use sig_base::Word;
 
 /// An identifier after a dot, by its end.
@@ -17,20 +17,8 @@ pub enum Part {
     Symbolic(usize),
 }
 
-/// The kind of the token that begins at a place, and where it ends: the longest token that can stand
-/// there. `None` exactly where none begins, as where a comment does.
-pub fn token_at(bytes: &[u8], at: usize) -> Option<(TokenKind, usize)>
-    requires { at < length bytes.now }
-    ensures { MatchOption result (NoTokenAt bytes.now at) (λ t. IsTokenAt bytes.now t.0 at t.1) }
-{
-    if is_comment_at(bytes, at) {
-        None
-    } else {
-        longest_at(bytes, at)
-    }
-}
-
-fn longest_at(bytes: &[u8], at: usize) -> Option<(TokenKind, usize)>
+/// The kind of the longest token that can stand at a place, and where it ends; `None` exactly where none can.
+pub fn longest_at(bytes: &[u8], at: usize) -> Option<(TokenKind, usize)>
     requires { at < length bytes.now }
     ensures { MatchOption result (NothingAt bytes.now at) (λ t. IsLongestAt bytes.now t.0 at t.1) }
 {
@@ -100,7 +88,7 @@ fn alphanumeric_part(bytes: &[u8], at: usize) -> Option<Part>
 {
     let end = alphanumeric_end(bytes, at + 1);
     match Word::of(&bytes[at..end]) {
-        Some(_) => None,
+        Some(_) => None, // a reserved word is no part, so its dot is in no long identifier
         None => Some(Part::Alphanumeric(end)),
     }
 }
@@ -156,21 +144,6 @@ fn is_dots_at(bytes: &[u8], at: usize) -> bool
     ensures { IsTrue result ↔ (between at (at + 3) bytes.now ≡ spelling KwDots) }
 {
     3 <= bytes.len() - at && &bytes[at..at + 3] == b"...".as_slice()
-}
-
-fn is_comment_at(bytes: &[u8], at: usize) -> bool
-    requires { at < length bytes.now }
-    ensures { IsTrue result ↔ IsCommentAt bytes.now at }
-{
-    is_at(bytes, at, b'(') && is_at(bytes, at + 1, b'*')
-}
-
-/// Whether a byte stands at a place.
-fn is_at(bytes: &[u8], at: usize, byte: u8) -> bool
-    requires { 0 < byte }
-    ensures { IsTrue result ↔ (slice_index bytes.now at ≡ byte) }
-{
-    at < bytes.len() && bytes[at] == byte
 }
 
 fn is_letter_at(bytes: &[u8], at: usize) -> bool

@@ -28,8 +28,12 @@ pub struct Token {
 /// Why a text has no tokens.
 #[derive(Clone, Copy, Debug, PartialEq, Eq)]
 pub enum LexRefusal {
-    /// Reading reaches this byte, which is no separator, and what begins there is not read yet.
-    NotBuilt(u32),
+    /// Reading reaches this byte, and no separator, comment or token begins there.
+    BadByte(u32),
+    /// Reading reaches this byte, and the comment that begins there isn't closed.
+    OpenComment(u32),
+    /// Reading reaches this byte, and the token that begins there has a part of more than 255 bytes.
+    LongName(u32),
     /// Memory was wanted.
     NoMemory,
 }
