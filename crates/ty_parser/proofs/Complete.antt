@@ -1,13 +1,19 @@
 -- What the grammar has, the machine reads.
-use Rattle.std.proofs.Common.{◌≡◌, ℕ, suc, List, [], ◌∷◌, ◌++◌, Option, Some, refl, ap, ◌∙◌}
-use Rattle.std.specs.Prelude.{option_and_then}
+use Rattle.std.proofs.Common.{◌≡◌, ℕ, List, [], ◌∷◌, ◌++◌, Option, Some, None, refl, ap, ◌∙◌}
+use Rattle.std.specs.Prelude.{IsTrue, option_and_then, if◌then◌else◌}
+use Rattle.ty_parser.specs.declared.sort.Sort.{Sort}
 use Rattle.ty_parser.specs.declared.tree.TyExp.{TyExp}
 use Rattle.ty_parser.specs.declared.tree.TyExp.TheVariants as ty
+use Rattle.ty_parser.specs.declared.tree.FieldExp.{FieldExp}
 use Rattle.ty_parser.specs.declared.reader.Level.{Level}
+use Rattle.ty_parser.specs.declared.reader.Opened.{Opened}
+use Rattle.ty_parser.specs.declared.reader.Opened.TheVariants as opened
 use Rattle.ty_parser.specs.declared.reader.Operand.{Operand}
 use Rattle.ty_parser.specs.declared.reader.Operand.TheVariants as operand
-use Rattle.ty_parser.specs.Grammar.{Numbered, of_parts, Ty, sides, Sides, one_side, more_sides, Tuple, parts, Parts, one_part, more_parts, App, alone, applied, Applied, to_none, to_one, further, Unary, variable, parens}
-use Rattle.ty_parser.specs.Machine.{Stack, State, Want, Have, start, tree_of, with_constructor, tuple_of, with_part, with_side, inside, outside, whole, want, have, step, run, closed, finish}
+use Rattle.ty_parser.specs.Sorts.{is_label, is_long_tycon}
+use Rattle.ty_parser.specs.Grammar.{Numbered, of_parts, field, Ty, sides, Sides, one_side, more_sides, Tuple, parts, Parts, one_part, more_parts, App, alone, applied, Applied, to_none, to_one, to_more, further, Unary, variable, no_fields, fields, parens, Fields, one_field, more_fields, Types, one_type, more_types}
+use Rattle.ty_parser.specs.Machine as machine
+use Rattle.ty_parser.specs.Machine.{Stack, State, Want, Have, Label, Colon, Tycon, fresh, stack, start, tree_of, with_constructor, tuple_of, with_part, with_side, inside, inside_field, whole, comma, enclosed, right_paren, right_brace, begin, want, leave, have, brace, label, colon, tycon, step, run, closed, finish}
 
 -- reading the tokens up to the rest leads from one state to the other
 pub data Steps : State → List Numbered → State → List Numbered → Type 0 where
@@ -28,11 +34,42 @@ pub steps-run_within : {S : Type 0} (go : S → Numbered → Option S) (within :
 steps-run_within go within follows here = refl
 steps-run_within go within follows (next {st = st} {st' = st'} {t = t} {ts = ts} e d) = ap (option_and_then (λ x. run go x ts)) (follows st st' t e) ∙ steps-run_within go within follows d
 
-abbrev pub level : ℕ → List TyExp → List TyExp → Level
-level room xs es = record { room = room; sides = xs; parts = es }
+-- a constructor can stand where it may
+module _ (i : ℕ) (so : Sort) (named : IsTrue (is_long_tycon so)) where
+  pub want_tycon : (k : Stack) → want k i so ≡ Some (Have k (operand.Applied [] (i ∷ [])))
+  unfolding want
+  want_tycon k = ap (λ b. if b then Some (Have k (operand.Applied [] (i ∷ []))) else begin k i so) named
 
-abbrev pub stack : List Level → ℕ → List TyExp → List TyExp → Stack
-stack ls room xs es = record { outer = ls; level = level room xs es }
+  pub have_tycon : (k : Stack) (a : Operand) → have k a i so ≡ Some (Have k (with_constructor a i))
+  unfolding have
+  have_tycon k a = ap (λ b. if b then Some (Have k (with_constructor a i)) else leave k (tree_of a) so) named
+
+  pub arguments_tycon : (k : Stack) (es : List TyExp) → tycon k es i so ≡ Some (Have k (operand.Applied es (i ∷ [])))
+  unfolding tycon
+  arguments_tycon k es = ap (λ b. if b then Some (Have k (operand.Applied es (i ∷ []))) else None) named
+
+-- a label can stand where it may
+module _ (i : ℕ) (so : Sort) (named : IsTrue (is_label so)) where
+  pub brace_label : (k : Stack) → brace k i so ≡ Some (Colon k [] i)
+  unfolding brace
+  brace_label k = ap (λ b. if b then Some (Colon k [] i) else machine.no_fields k so) named
+
+  pub comma_label : (k : Stack) (fs : List FieldExp) → label k fs i so ≡ Some (Colon k fs i)
+  unfolding label
+  comma_label k fs = ap (λ b. if b then Some (Colon k fs i) else None) named
+
+-- parentheses around two types or more want a constructor
+enclosed_more : (k : Stack) (es : List TyExp) (e f : TyExp) → enclosed k (es ++ e ∷ []) f ≡ Tycon k ((es ++ e ∷ []) ++ f ∷ [])
+unfolding enclosed
+enclosed_more k [] e f = refl
+enclosed_more k (x ∷ es) e f = refl
+
+enclosed_types : {ts r : List Numbered} {es : List TyExp} (k : Stack) (f : TyExp) → Types ts r es → enclosed k es f ≡ Tycon k (es ++ f ∷ [])
+enclosed_types k f (one_type {e = e} d) = enclosed_more k [] e f
+enclosed_types k f (more_types {es = es} {e = e} d t) = enclosed_more k es e f
+
+abbrev pub level : List TyExp → List TyExp → Level
+level xs es = record { sides = xs; parts = es }
 
 abbrev tuple_tree : List TyExp → TyExp
 tuple_tree es = of_parts ty.Tuple es
@@ -41,74 +78,102 @@ abbrev arrows_tree : List TyExp → TyExp
 arrows_tree xs = of_parts ty.Arrows xs
 
 -- from a state that wants an operand, the tokens up to the rest lead to one that has the app e
-pub record AppSteps (ls : List Level) (room : ℕ) (xs es : List TyExp) (ts r : List Numbered) (e : TyExp) : Type 0 where
+pub record AppSteps (k : Stack) (ts r : List Numbered) (e : TyExp) : Type 0 where
   pub last : Operand
   pub tree : tree_of last ≡ e
-  pub steps : Steps (Want (stack ls room xs es)) ts (Have (stack ls room xs es) last) r
+  pub steps : Steps (Want k) ts (Have k last) r
 
 -- the same, from a level's beginning or after an arrow, to the parts es
-pub record PartsSteps (ls : List Level) (room : ℕ) (xs : List TyExp) (ts r : List Numbered) (es : List TyExp) : Type 0 where
+pub record PartsSteps (ls : List Opened) (xs : List TyExp) (ts r : List Numbered) (es : List TyExp) : Type 0 where
   pub before : List TyExp
   pub last : Operand
   pub trees : before ++ tree_of last ∷ [] ≡ es
-  pub steps : Steps (Want (stack ls room xs [])) ts (Have (stack ls room xs before) last) r
+  pub steps : Steps (Want (stack ls (level xs []))) ts (Have (stack ls (level xs before)) last) r
 
 -- the same, from a level's beginning, to the sides xs
-pub record SidesSteps (ls : List Level) (room : ℕ) (ts r : List Numbered) (xs : List TyExp) : Type 0 where
+pub record SidesSteps (ls : List Opened) (ts r : List Numbered) (xs : List TyExp) : Type 0 where
   pub before : List TyExp
   pub parts : List TyExp
   pub last : Operand
   pub trees : before ++ tuple_of parts (tree_of last) ∷ [] ≡ xs
-  pub steps : Steps (Want (stack ls room [] [])) ts (Have (stack ls room before parts) last) r
+  pub steps : Steps (Want (stack ls fresh)) ts (Have (stack ls (level before parts)) last) r
 
 -- the same, to a type that may end there
-pub record TypeSteps (ls : List Level) (room : ℕ) (ts r : List Numbered) (e : TyExp) : Type 0 where
+pub record TypeSteps (ls : List Opened) (ts r : List Numbered) (e : TyExp) : Type 0 where
   pub sides : List TyExp
   pub parts : List TyExp
   pub last : Operand
-  pub tree : whole (level room sides parts) (tree_of last) ≡ e
-  pub steps : Steps (Want (stack ls room [] [])) ts (Have (stack ls room sides parts) last) r
+  pub tree : whole (level sides parts) (tree_of last) ≡ e
+  pub steps : Steps (Want (stack ls fresh)) ts (Have (stack ls (level sides parts)) last) r
+
+-- the same, from a left parenthesis, to the types es
+pub record TypesSteps (l : Level) (ls : List Opened) (ts r : List Numbered) (es : List TyExp) : Type 0 where
+  pub before : List TyExp
+  pub sides : List TyExp
+  pub parts : List TyExp
+  pub last : Operand
+  pub trees : before ++ whole (level sides parts) (tree_of last) ∷ [] ≡ es
+  pub steps : Steps (Want (stack (opened.Parens l [] ∷ ls) fresh)) ts (Have (stack (opened.Parens l before ∷ ls) (level sides parts)) last) r
+
+-- the same, from a left brace, to the fields fs
+pub record FieldsSteps (l : Level) (ls : List Opened) (ts r : List Numbered) (fs : List FieldExp) : Type 0 where
+  pub before : List FieldExp
+  pub label : ℕ
+  pub sides : List TyExp
+  pub parts : List TyExp
+  pub last : Operand
+  pub trees : before ++ field label (whole (level sides parts) (tree_of last)) ∷ [] ≡ fs
+  pub steps : Steps (machine.Brace (stack ls l)) ts (Have (stack (opened.Braces l before label ∷ ls) (level sides parts)) last) r
 
 mutual
-  unfolding want have with_constructor with_part with_side inside outside whole
+  unfolding with_constructor with_part with_side inside inside_field comma right_paren right_brace enclosed begin want leave have machine.no_fields brace colon whole
 
-  pub unary_steps : {room : ℕ} {ts r : List Numbered} {e : TyExp} (ls : List Level) (xs es : List TyExp) → Unary room ts r e → Steps (Want (stack ls room xs es)) ts (Have (stack ls room xs es) (operand.Alone e)) r
-  unary_steps ls xs es variable = next refl here
-  unary_steps ls xs es (parens {room = room} d) =
-      let h = type_steps (level (suc room) xs es ∷ ls) d in
-      next refl (steps-trans h.steps (next (ap (λ e. Some (Have (stack ls (suc room) xs es) (operand.Alone e))) h.tree) here))
+  pub unary_steps : {ts r : List Numbered} {e : TyExp} (k : Stack) → Unary ts r e → Steps (Want k) ts (Have k (operand.Alone e)) r
+  unary_steps k variable = next refl here
+  unary_steps k no_fields = next refl (next refl here)
+  unary_steps k (fields d) =
+      let h = fields_steps k.level k.outer d in
+      next refl (steps-trans h.steps (next (ap (λ fs. Some (Have k (operand.Alone (ty.Fields fs)))) h.trees) here))
+  unary_steps k (parens d) =
+      let h = type_steps (opened.Parens k.level [] ∷ k.outer) d in
+      next refl (steps-trans h.steps (next (ap (λ e. Some (Have k (operand.Alone e))) h.tree) here))
 
-  pub applied_steps : {room : ℕ} {ts r : List Numbered} {us : List TyExp} {cs : List ℕ} (ls : List Level) (xs es : List TyExp) → Applied room ts r us cs → Steps (Want (stack ls room xs es)) ts (Have (stack ls room xs es) (operand.Applied us cs)) r
-  applied_steps ls xs es to_none = next refl here
-  applied_steps ls xs es (to_one d) = steps-trans (unary_steps ls xs es d) (next refl here)
-  applied_steps ls xs es (further d) = steps-trans (applied_steps ls xs es d) (next refl here)
+  pub applied_steps : {ts r : List Numbered} {us : List TyExp} {cs : List ℕ} (k : Stack) → Applied ts r us cs → Steps (Want k) ts (Have k (operand.Applied us cs)) r
+  applied_steps k (to_none {i = i} {so = so} named) = next (want_tycon i so named k) here
+  applied_steps k (to_one {i = i} {so = so} {e = e} d named) = steps-trans (unary_steps k d) (next (have_tycon i so named k (operand.Alone e)) here)
+  applied_steps k (to_more {l = i} {so = so} {es = es} {e = e} d t named) =
+      let h = types_steps k.level k.outer d in
+      let g = type_steps (opened.Parens k.level es ∷ k.outer) t in
+      next refl (steps-trans h.steps (next (ap (λ es. Some (Want (stack (opened.Parens k.level es ∷ k.outer) fresh))) h.trees)
+      (steps-trans g.steps (next (ap (λ e. Some (enclosed k es e)) g.tree ∙ ap Some (enclosed_types k e d)) (next (arguments_tycon i so named k (es ++ e ∷ [])) here)))))
+  applied_steps k (further {i = i} {so = so} {es = es} {cs = cs} d named) = steps-trans (applied_steps k d) (next (have_tycon i so named k (operand.Applied es cs)) here)
 
-  pub app_steps : {room : ℕ} {ts r : List Numbered} {e : TyExp} (ls : List Level) (xs es : List TyExp) → App room ts r e → AppSteps ls room xs es ts r e
-  app_steps ls xs es (alone d) = record { last = _; tree = refl; steps = unary_steps ls xs es d }
-  app_steps ls xs es (applied d) = record { last = _; tree = refl; steps = applied_steps ls xs es d }
+  pub app_steps : {ts r : List Numbered} {e : TyExp} (k : Stack) → App ts r e → AppSteps k ts r e
+  app_steps k (alone d) = record { last = _; tree = refl; steps = unary_steps k d }
+  app_steps k (applied d) = record { last = _; tree = refl; steps = applied_steps k d }
 
-  pub parts_steps : {room : ℕ} {ts r : List Numbered} {es : List TyExp} (ls : List Level) (xs : List TyExp) → Parts room ts r es → PartsSteps ls room xs ts r es
+  pub parts_steps : {ts r : List Numbered} {es : List TyExp} (ls : List Opened) (xs : List TyExp) → Parts ts r es → PartsSteps ls xs ts r es
   parts_steps ls xs (one_part d) =
-      let h = app_steps ls xs [] d in
+      let h = app_steps (stack ls (level xs [])) d in
       record { before = []; last = h.last; trees = ap (λ e. e ∷ []) h.tree; steps = h.steps }
-  parts_steps {room = room} ls xs (more_parts {m = m} {es = es} p d) =
+  parts_steps ls xs (more_parts {es = es} p d) =
       let g = parts_steps ls xs p in
-      let h = app_steps ls xs es d in
+      let h = app_steps (stack ls (level xs es)) d in
       record {
         before = es;
         last = h.last;
         trees = ap (λ e. es ++ e ∷ []) h.tree;
-        steps = steps-trans g.steps (next (ap (λ es. Some (Want (stack ls room xs es))) g.trees) h.steps);
+        steps = steps-trans g.steps (next (ap (λ es. Some (Want (stack ls (level xs es)))) g.trees) h.steps);
       }
 
-  pub tuple_steps : {room : ℕ} {ts r : List Numbered} {e : TyExp} (ls : List Level) (xs : List TyExp) → Tuple room ts r e → (es : List TyExp) × (a : Operand) × (tuple_of es (tree_of a) ≡ e) × Steps (Want (stack ls room xs [])) ts (Have (stack ls room xs es) a) r
+  pub tuple_steps : {ts r : List Numbered} {e : TyExp} (ls : List Opened) (xs : List TyExp) → Tuple ts r e → (es : List TyExp) × (a : Operand) × (tuple_of es (tree_of a) ≡ e) × Steps (Want (stack ls (level xs []))) ts (Have (stack ls (level xs es)) a) r
   tuple_steps ls xs (parts d) = let h = parts_steps ls xs d in (h.before, h.last, ap tuple_tree h.trees, h.steps)
 
-  pub sides_steps : {room : ℕ} {ts r : List Numbered} {xs : List TyExp} (ls : List Level) → Sides room ts r xs → SidesSteps ls room ts r xs
+  pub sides_steps : {ts r : List Numbered} {xs : List TyExp} (ls : List Opened) → Sides ts r xs → SidesSteps ls ts r xs
   sides_steps ls (one_side d) =
       let h = tuple_steps ls [] d in
       record { before = []; parts = h.0; last = h.1; trees = ap (λ x. x ∷ []) h.2; steps = h.3 }
-  sides_steps {room = room} ls (more_sides {xs = xs} p d) =
+  sides_steps ls (more_sides {xs = xs} p d) =
       let g = sides_steps ls p in
       let h = tuple_steps ls xs d in
       record {
@@ -116,15 +181,56 @@ mutual
         parts = h.0;
         last = h.1;
         trees = ap (λ x. xs ++ x ∷ []) h.2;
-        steps = steps-trans g.steps (next (ap (λ xs. Some (Want (stack ls room xs []))) g.trees) h.3);
+        steps = steps-trans g.steps (next (ap (λ xs. Some (Want (stack ls (level xs [])))) g.trees) h.3);
       }
 
-  pub type_steps : {room : ℕ} {ts r : List Numbered} {e : TyExp} (ls : List Level) → Ty room ts r e → TypeSteps ls room ts r e
+  pub type_steps : {ts r : List Numbered} {e : TyExp} (ls : List Opened) → Ty ts r e → TypeSteps ls ts r e
   type_steps ls (sides d) =
       let h = sides_steps ls d in
       record { sides = h.before; parts = h.parts; last = h.last; tree = ap arrows_tree h.trees; steps = h.steps }
 
+  pub types_steps : {ts r : List Numbered} {es : List TyExp} (l : Level) (ls : List Opened) → Types ts r es → TypesSteps l ls ts r es
+  types_steps l ls (one_type d) =
+      let h = type_steps (opened.Parens l [] ∷ ls) d in
+      record { before = []; sides = h.sides; parts = h.parts; last = h.last; trees = ap (λ e. e ∷ []) h.tree; steps = h.steps }
+  types_steps l ls (more_types {es = es} p d) =
+      let g = types_steps l ls p in
+      let h = type_steps (opened.Parens l es ∷ ls) d in
+      record {
+        before = es;
+        sides = h.sides;
+        parts = h.parts;
+        last = h.last;
+        trees = ap (λ e. es ++ e ∷ []) h.tree;
+        steps = steps-trans g.steps (next (ap (λ es. Some (Want (stack (opened.Parens l es ∷ ls) fresh))) g.trees) h.steps);
+      }
+
+  pub fields_steps : {ts r : List Numbered} {fs : List FieldExp} (l : Level) (ls : List Opened) → Fields ts r fs → FieldsSteps l ls ts r fs
+  fields_steps l ls (one_field {i = i} {so = so} named d) =
+      let h = type_steps (opened.Braces l [] i ∷ ls) d in
+      record {
+        before = [];
+        label = i;
+        sides = h.sides;
+        parts = h.parts;
+        last = h.last;
+        trees = ap (λ e. field i e ∷ []) h.tree;
+        steps = next (brace_label i so named (stack ls l)) (next refl h.steps);
+      }
+  fields_steps l ls (more_fields {i = i} {so = so} {fs = fs} p named d) =
+      let g = fields_steps l ls p in
+      let h = type_steps (opened.Braces l fs i ∷ ls) d in
+      record {
+        before = fs;
+        label = i;
+        sides = h.sides;
+        parts = h.parts;
+        last = h.last;
+        trees = ap (λ e. fs ++ field i e ∷ []) h.tree;
+        steps = steps-trans g.steps (next (ap (λ fs. Some (Label (stack ls l) fs)) g.trees) (next (comma_label i so named (stack ls l) fs) (next refl h.steps)));
+      }
+
 -- the machine reads a type, whatever follows, and may end there
-pub type_read : {room : ℕ} {ts r : List Numbered} {e : TyExp} → Ty room ts r e → (st : State) × Steps (start room) ts st r × (finish st ≡ Some e)
+pub type_read : {ts r : List Numbered} {e : TyExp} → Ty ts r e → (st : State) × Steps start ts st r × (finish st ≡ Some e)
 unfolding closed
 type_read d = let h = type_steps [] d in (_, h.steps, ap Some h.tree)

@@ -4,6 +4,9 @@ pub mod Sound
 pub mod Closing
 pub mod Refused
 pub mod Viable
+pub mod Stops
 pub mod Types
 pub mod Pieces
 pub mod Tokens
+pub mod Parts
+pub mod Outcomes

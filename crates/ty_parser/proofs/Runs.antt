@@ -12,6 +12,10 @@ pub if_some-and_then : {A B : Type 0} (f : A → Option B) (o : Option A) (P : A
 if_some-and_then f None P Q h go = tt
 if_some-and_then f (Some a) P Q h go = go a h
 
+pub if_some-map : {A : Type 0} (P Q : A → Type 0) (o : Option A) → ((a : A) → P a → Q a) → IfSome o P → IfSome o Q
+if_some-map P Q None f h = tt
+if_some-map P Q (Some a) f h = f a h
+
 and_then_twice : {A B C : Type 0} (f : A → Option B) (g : B → Option C) (o : Option A) → option_and_then (λ a. option_and_then g (f a)) o ≡ option_and_then g (option_and_then f o)
 and_then_twice f g None = refl
 and_then_twice f g (Some a) = refl

@@ -1,35 +1,27 @@
--- What the tokens of a text are, one by one.
-use Rattle.std.proofs.Common.{◌≡◌, ℕ, zero, suc, ◌+◌, ◌<◌, ◌≤◌, List, [], ◌∷◌, length, get_or, sym, ◌∙◌, arith}
-use Rattle.std.proofs.lemmas.List.{get_or-map, length-map}
+-- What the tokens of a text are, one by one, from a place on.
+use Rattle.std.proofs.Common.{◌≡◌, ℕ, ◌+◌, ◌<◌, ◌≤◌, List, length, get_or, drop, sym, ap, ◌∙◌, arith}
+use Rattle.std.proofs.lemmas.List.{get_or-map, get_or-drop, length-map, length-drop}
+use Rattle.std.proofs.lemmas.List.Elements.{All-get_or}
 use Rattle.sml_lexer.specs.declared.token.Token.{Token}
-use Rattle.sml_lexer.specs.Tokens.{IsReadAt, Reads}
+use Rattle.sml_lexer.specs.Tokens.{tokens}
+use Rattle.sml_lexer.proofs.Laws.{spans_inside}
 use Rattle.ty_parser.specs.declared.sort.Sort.{Sort}
 use Rattle.ty_parser.specs.declared.sort.Sort.TheVariants as s
 use Rattle.ty_parser.specs.Sorts.{sort_of, sorts_of}
 
 -- each of them stands in the text
-pub token_within : (bytes : List ℕ) (from : ℕ) (ts : List Token) (to : ℕ) (i : ℕ) (d : Token) → Reads bytes from ts to → i < length ts → IsReadAt bytes (get_or ts i d).kind (get_or ts i d).span.start (get_or ts i d).span.end
-token_within bytes from [] to i d reads lt = absurd (omega (arith, lt))
-token_within bytes from (t ∷ ts) to zero d reads lt = reads.1
-token_within bytes from (t ∷ ts) to (suc i) d reads lt = token_within bytes t.span.end ts to i d reads.2 (omega (arith, lt))
+pub span_inside : (bytes : List ℕ) (ts : List Token) (i : ℕ) (d : Token) → tokens bytes ts → i < length ts → ((get_or ts i d).span.start < (get_or ts i d).span.end) × ((get_or ts i d).span.end ≤ length bytes)
+span_inside bytes ts i d are lt = All-get_or (λ t. (t.span.start < t.span.end) × (t.span.end ≤ length bytes)) ts i d lt (spans_inside bytes ts are)
 
-pub token_order : (bytes : List ℕ) (from : ℕ) (ts : List Token) (to : ℕ) (i : ℕ) (d : Token) → Reads bytes from ts to → i < length ts → (get_or ts i d).span.start ≤ (get_or ts i d).span.end
-token_order bytes from ts to i d reads lt =
-    let begins = (token_within bytes from ts to i d reads lt).token.0.begins in
-    omega (arith, begins)
+module _ (bytes : List ℕ) (ts : List Token) (at n place : ℕ) (is : place ≡ at + n) where
+  -- the sorts from a place on go on exactly as far as the tokens
+  pub sort_within : place < length ts → n < length (drop at (sorts_of bytes ts))
+  sort_within lt = omega (arith, lt, is, length-map ts (sort_of bytes), length-drop at (sorts_of bytes ts))
 
--- there are no more of them than bytes
-pub length-Reads : (bytes : List ℕ) (from : ℕ) (ts : List Token) (to : ℕ) → Reads bytes from ts to → from + length ts ≤ to
-length-Reads bytes from [] to reads = omega (arith, reads.order)
-length-Reads bytes from (t ∷ ts) to reads =
-    let before = reads.0.order in
-    let within = reads.1.token.0.begins in
-    let after = length-Reads bytes t.span.end ts to reads.2 in
-    omega (arith, before, within, after)
+  pub sorts_end : at ≤ length ts → place ≡ length ts → n ≡ length (drop at (sorts_of bytes ts))
+  sorts_end le e = omega (arith, le, e, is, length-map ts (sort_of bytes), length-drop at (sorts_of bytes ts))
 
-module _ (bytes : List ℕ) (ts : List Token) (i : ℕ) (lt : i < length ts) where
-  pub sort_within : i < length (sorts_of bytes ts)
-  sort_within = omega (arith, lt, length-map ts (sort_of bytes))
-
-  pub sort_is : (d : Token) (so : Sort) → so ≡ sort_of bytes (get_or ts i d) → so ≡ get_or (sorts_of bytes ts) i s.Variable
-  sort_is d so is = is ∙ sym (get_or-map (sort_of bytes) ts i d s.Variable lt)
+  pub sort_is : (d : Token) (so : Sort) → place < length ts → so ≡ sort_of bytes (get_or ts place d) → so ≡ get_or (drop at (sorts_of bytes ts)) n s.Variable
+  sort_is d so lt e =
+      e ∙ sym (get_or-map (sort_of bytes) ts place d s.Variable lt) ∙ ap (λ i. get_or (sorts_of bytes ts) i s.Variable) is
+      ∙ sym (get_or-drop at (sorts_of bytes ts) n s.Variable)

@@ -1,4 +1,5 @@
 pub mod Sorts
 pub mod Grammar
 pub mod Phrases
+pub mod Parts
 pub mod Machine

@@ -1,27 +1,38 @@
 -- A reader of types that takes one token at a time, and settles nothing before the token that settles it.
-use Rattle.std.specs.Prelude.{ℕ, zero, suc, List, [], ◌∷◌, ◌++◌, Option, Some, None, option_and_then, reverse}
+use Rattle.std.specs.Prelude.{ℕ, ◌+◌, List, [], ◌∷◌, ◌++◌, length, Option, Some, None, option_and_then, reverse, if◌then◌else◌}
 use Rattle.sig_base.specs.declared.word.Word.TheVariants as w
 use Rattle.ty_parser.specs.declared.sort.Sort.{Sort}
 use Rattle.ty_parser.specs.declared.sort.Sort.TheVariants as s
 use Rattle.ty_parser.specs.declared.tree.TyExp.{TyExp}
 use Rattle.ty_parser.specs.declared.tree.TyExp.TheVariants as ty
+use Rattle.ty_parser.specs.declared.tree.FieldExp.{FieldExp}
 use Rattle.ty_parser.specs.declared.reader.Level.{Level}
+use Rattle.ty_parser.specs.declared.reader.Opened.{Opened}
+use Rattle.ty_parser.specs.declared.reader.Opened.TheVariants as opened
 use Rattle.ty_parser.specs.declared.reader.Held.{Held}
 use Rattle.ty_parser.specs.declared.reader.Operand.{Operand}
 use Rattle.ty_parser.specs.declared.reader.Operand.TheVariants as operand
 use Rattle.ty_parser.specs.declared.reader.Reader.{Reader}
 use Rattle.ty_parser.specs.declared.reader.Reader.TheVariants as reader
-use Rattle.ty_parser.specs.Grammar.{Numbered, of_parts}
+use Rattle.ty_parser.specs.Grammar.{Numbered, of_parts, field}
+use Rattle.ty_parser.specs.Sorts.{is_label, is_long_tycon}
 
--- the innermost level, and those around it, the innermost first
+-- the innermost level, and what is open around it, the innermost first
 pub record Stack : Type 0 where
-  pub outer : List Level
+  pub outer : List Opened
   pub level : Level
 
--- an operand is wanted, or there is one that may go on
 pub data State : Type 0 where
+  -- an operand is wanted, or there is one that may go on
   Want : Stack → State
   Have : Stack → Operand → State
+  -- after a left brace
+  Brace : Stack → State
+  -- after a comma in braces, and after a label, with the fields before
+  Label : Stack → List FieldExp → State
+  Colon : Stack → List FieldExp → ℕ → State
+  -- after arguments in parentheses, which want a constructor
+  Tycon : Stack → List TyExp → State
 
 -- the levels that a reader holds
 abbrev pub stack_of : Held → Stack
@@ -31,14 +42,21 @@ stack_of held = record { outer = reverse held.around; level = held.level }
 abbrev pub state_of : Reader → State
 state_of (reader.Wants held) = Want (stack_of held)
 state_of (reader.Has held a) = Have (stack_of held) a
+state_of (reader.AfterBrace held) = Brace (stack_of held)
+state_of (reader.WantsLabel held fs) = Label (stack_of held) fs
+state_of (reader.WantsColon held fs i) = Colon (stack_of held) fs i
+state_of (reader.WantsTycon held es) = Tycon (stack_of held) es
 
 -- a level of which nothing is read
-abbrev pub fresh : ℕ → Level
-fresh room = record { room = room; sides = []; parts = [] }
+abbrev pub fresh : Level
+fresh = record { sides = []; parts = [] }
 
--- the state before a type inside which so many parentheses may be opened
-abbrev pub start : ℕ → State
-start room = Want (record { outer = []; level = fresh room })
+abbrev pub stack : List Opened → Level → Stack
+stack ls l = record { outer = ls; level = l }
+
+-- the state before a type
+abbrev pub start : State
+start = Want (stack [] fresh)
 
 -- the operand as a type
 abbrev pub tree_of : Operand → TyExp
@@ -60,58 +78,119 @@ with_constructor (operand.Applied es cs) i = operand.Applied es (cs ++ i ∷ [])
 
 -- the levels after a star
 unfoldable pub with_part : Stack → TyExp → Stack
-with_part k e = record { outer = k.outer; level = record { room = k.level.room; sides = k.level.sides; parts = k.level.parts ++ e ∷ [] } }
+with_part k e = stack k.outer (record { sides = k.level.sides; parts = k.level.parts ++ e ∷ [] })
 
 -- the levels after an arrow
 unfoldable pub with_side : Stack → TyExp → Stack
-with_side k e =
-    record { outer = k.outer; level = record { room = k.level.room; sides = k.level.sides ++ tuple_of k.level.parts e ∷ []; parts = [] } }
+with_side k e = stack k.outer (record { sides = k.level.sides ++ tuple_of k.level.parts e ∷ []; parts = [] })
 
--- the state after a left parenthesis, with room for so many
-unfoldable pub inside : Stack → ℕ → Option State
-inside k zero = None
-inside k (suc room) = Some (Want (record { outer = k.level ∷ k.outer; level = fresh room }))
+-- the levels after a left parenthesis
+unfoldable pub inside : Stack → Stack
+inside k = stack (opened.Parens k.level [] ∷ k.outer) fresh
+
+-- the levels after a label and its colon
+unfoldable pub inside_field : Stack → List FieldExp → ℕ → Stack
+inside_field k fs i = stack (opened.Braces k.level fs i ∷ k.outer) fresh
 
 -- the level as a type
 unfoldable pub whole : Level → TyExp → TyExp
 whole l e = arrows_of l.sides (tuple_of l.parts e)
 
+-- the state after a comma
+unfoldable pub comma : List Opened → TyExp → Option State
+comma [] e = None
+comma (opened.Parens l es ∷ ls) e = Some (Want (stack (opened.Parens l (es ++ e ∷ []) ∷ ls) fresh))
+comma (opened.Braces l fs i ∷ ls) e = Some (Label (stack ls l) (fs ++ field i e ∷ []))
+
+-- the state after the parentheses around types, the last of them apart
+unfoldable pub enclosed : Stack → List TyExp → TyExp → State
+enclosed k [] e = Have k (operand.Alone e)
+enclosed k es e = Tycon k (es ++ e ∷ [])
+
 -- the state after a right parenthesis
-unfoldable pub outside : List Level → TyExp → Option State
-outside [] e = None
-outside (l ∷ ls) e = Some (Have (record { outer = ls; level = l }) (operand.Alone e))
+unfoldable pub right_paren : List Opened → TyExp → Option State
+right_paren (opened.Parens l es ∷ ls) e = Some (enclosed (stack ls l) es e)
+right_paren _ e = None
+
+-- the state after a right brace
+unfoldable pub right_brace : List Opened → TyExp → Option State
+right_brace (opened.Braces l fs i ∷ ls) e = Some (Have (stack ls l) (operand.Alone (ty.Fields (fs ++ field i e ∷ []))))
+right_brace _ e = None
+
+-- the state after a token that begins an operand and is no constructor
+unfoldable pub begin : Stack → ℕ → Sort → Option State
+begin k i s.Variable = Some (Have k (operand.Alone (ty.Var i)))
+begin k i (s.Reserved w.KwLParen) = Some (Want (inside k))
+begin k i (s.Reserved w.KwLBrace) = Some (Brace k)
+begin k i _ = None
 
 -- the state after a token where an operand is wanted
 unfoldable pub want : Stack → ℕ → Sort → Option State
-want k i s.Variable = Some (Have k (operand.Alone (ty.Var i)))
-want k i s.Base = Some (Have k (operand.Applied [] (i ∷ [])))
-want k i (s.Reserved w.KwLParen) = inside k k.level.room
-want k i _ = None
+want k i so = if is_long_tycon so then Some (Have k (operand.Applied [] (i ∷ []))) else begin k i so
+
+-- the state after a token behind an operand that is no constructor
+unfoldable pub leave : Stack → TyExp → Sort → Option State
+leave k e s.Star = Some (Want (with_part k e))
+leave k e (s.Reserved w.KwArrow) = Some (Want (with_side k e))
+leave k e (s.Reserved w.KwComma) = comma k.outer (whole k.level e)
+leave k e (s.Reserved w.KwRParen) = right_paren k.outer (whole k.level e)
+leave k e (s.Reserved w.KwRBrace) = right_brace k.outer (whole k.level e)
+leave k e _ = None
 
 -- the state after a token where there is an operand
 unfoldable pub have : Stack → Operand → ℕ → Sort → Option State
-have k a i s.List = Some (Have k (with_constructor a i))
-have k a i s.Star = Some (Want (with_part k (tree_of a)))
-have k a i (s.Reserved w.KwArrow) = Some (Want (with_side k (tree_of a)))
-have k a i (s.Reserved w.KwRParen) = outside k.outer (whole k.level (tree_of a))
-have k a i _ = None
+have k a i so = if is_long_tycon so then Some (Have k (with_constructor a i)) else leave k (tree_of a) so
+
+unfoldable pub no_fields : Stack → Sort → Option State
+no_fields k (s.Reserved w.KwRBrace) = Some (Have k (operand.Alone (ty.Fields [])))
+no_fields k _ = None
+
+-- the state after a token behind a left brace
+unfoldable pub brace : Stack → ℕ → Sort → Option State
+brace k i so = if is_label so then Some (Colon k [] i) else no_fields k so
+
+-- the state after a token behind a comma in braces
+unfoldable pub label : Stack → List FieldExp → ℕ → Sort → Option State
+label k fs i so = if is_label so then Some (Colon k fs i) else None
+
+-- the state after a token behind a label
+unfoldable pub colon : Stack → List FieldExp → ℕ → Sort → Option State
+colon k fs i (s.Reserved w.KwColon) = Some (Want (inside_field k fs i))
+colon k fs i _ = None
+
+-- the state after a token behind arguments in parentheses
+unfoldable pub tycon : Stack → List TyExp → ℕ → Sort → Option State
+tycon k es i so = if is_long_tycon so then Some (Have k (operand.Applied es (i ∷ []))) else None
 
 -- the state after a token, if it can stand there
 abbrev pub step : State → Numbered → Option State
 step (Want k) t = want k t.0 t.1
 step (Have k a) t = have k a t.0 t.1
+step (Brace k) t = brace k t.0 t.1
+step (Label k fs) t = label k fs t.0 t.1
+step (Colon k fs i) t = colon k fs i t.1
+step (Tycon k es) t = tycon k es t.0 t.1
 
 -- the state after some tokens, by a machine's steps
 abbrev pub run : {S : Type 0} → (S → Numbered → Option S) → S → List Numbered → Option S
 run go st [] = Some st
 run go st (t ∷ ts) = option_and_then (λ st'. run go st' ts) (go st t)
 
--- a type may end only where no parenthesis is open
-unfoldable pub closed : List Level → TyExp → Option TyExp
+-- a type may end only where nothing is open
+unfoldable pub closed : List Opened → TyExp → Option TyExp
 closed [] e = Some e
 closed (l ∷ ls) e = None
 
 -- the type that was read, if it may end there
 abbrev pub finish : State → Option TyExp
-finish (Want k) = None
 finish (Have k a) = closed k.outer (whole k.level (tree_of a))
+finish _ = None
+
+-- how many parentheses and braces are open
+unfoldable pub depth : State → ℕ
+depth (Want k) = length k.outer
+depth (Have k a) = length k.outer
+depth (Brace k) = length k.outer + 1
+depth (Label k fs) = length k.outer + 1
+depth (Colon k fs i) = length k.outer + 1
+depth (Tycon k es) = length k.outer

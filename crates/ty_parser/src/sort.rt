@@ -1,5 +1,5 @@
 // What a token is to the grammars.
-ghost use Rattle.std.specs.Prelude.{◌≡◌, ◌≤◌, length};
+ghost use Rattle.std.specs.Prelude.{◌≡◌, ◌-◌, ◌≤◌, length, slice_index};
 ghost use Rattle.ty_parser.specs.Sorts as spec;
 
 use sig_base::Word;
@@ -8,47 +8,38 @@ use sml_lexer::{Token, TokenKind};
 /// What a token is to the grammars of types and of files.
 #[derive(Clone, Copy, Debug, PartialEq, Eq)]
 pub enum Sort {
-    /// A reserved word.
+    /// A reserved word, `=` among them.
     Reserved(Word),
     /// A type variable.
     Variable,
-    /// The name of a type that every file may use and that takes no argument (the Definition of
-    /// Standard ML, appendix C, and the Basis Library).
-    Base,
-    /// The name `list`.
-    List,
-    /// Any other alphanumeric identifier.
+    /// An alphanumeric identifier without dots.
     Alphanumeric,
-    /// The symbolic identifier `*`.
+    /// A symbolic identifier without dots, other than `*`.
+    Symbolic,
+    /// The identifier `*`.
     Star,
-    /// Any other token.
-    Other,
+    /// A long identifier whose parts are all alphanumeric.
+    LongAlphanumeric,
+    /// A long identifier whose last part is symbolic, other than `*`.
+    LongSymbolic,
+    /// A long identifier whose last part is `*`.
+    LongStar,
+    /// A numeral.
+    Numeral,
 }
 
-fn is_base_name(text: &[u8]) -> bool
-    ensures { result ≡ spec.is_base_name text.now }
+fn is_alphanumeric(b: u8) -> bool
+    ensures { result ≡ spec.is_alphanumeric b }
 {
-    text == b"int".as_slice()
-        || text == b"word".as_slice()
-        || text == b"real".as_slice()
-        || text == b"char".as_slice()
-        || text == b"string".as_slice()
-        || text == b"substring".as_slice()
-        || text == b"exn".as_slice()
-        || text == b"bool".as_slice()
-        || text == b"order".as_slice()
-        || text == b"unit".as_slice()
+    b.is_ascii_alphanumeric() || b == b'\'' || b == b'_'
 }
 
-fn sort_of_word(text: &[u8]) -> Sort
-    ensures { result ≡ spec.sort_of_word text.now }
+fn ends_alphanumeric(text: &[u8]) -> bool
+    ensures { result ≡ spec.is_alphanumeric (slice_index text.now (length text.now - 1)) }
 {
-    if text == b"list".as_slice() {
-        Sort::List
-    } else if is_base_name(text) {
-        Sort::Base
-    } else {
-        Sort::Alphanumeric
+    match text.last() {
+        Some(b) => is_alphanumeric(*b),
+        None => false,
     }
 }
 
@@ -58,7 +49,19 @@ fn sort_of_symbol(text: &[u8]) -> Sort
     if text == b"*".as_slice() {
         Sort::Star
     } else {
-        Sort::Other
+        Sort::Symbolic
+    }
+}
+
+fn sort_of_long(text: &[u8]) -> Sort
+    ensures { result ≡ spec.sort_of_long text.now }
+{
+    if ends_alphanumeric(text) {
+        Sort::LongAlphanumeric
+    } else if text.ends_with(b".*".as_slice()) {
+        Sort::LongStar
+    } else {
+        Sort::LongSymbolic
     }
 }
 
@@ -72,8 +75,73 @@ pub fn sort_of(bytes: &[u8], token: Token) -> Sort
     match token.kind {
         TokenKind::Reserved(word) => Sort::Reserved(word),
         TokenKind::TyVar => Sort::Variable,
-        TokenKind::Alpha => sort_of_word(text),
+        TokenKind::Alpha => Sort::Alphanumeric,
         TokenKind::Sym => sort_of_symbol(text),
-        TokenKind::Long | TokenKind::Num => Sort::Other,
+        TokenKind::Long => sort_of_long(text),
+        TokenKind::Num => Sort::Numeral,
+    }
+}
+
+impl Sort {
+    /// An identifier without dots, as values and constructors have.
+    pub fn is_vid(self) -> bool
+        ensures value { result ≡ spec.is_vid self }
+    {
+        match self {
+            Sort::Alphanumeric | Sort::Symbolic | Sort::Star => true,
+            _ => false,
+        }
+    }
+
+    /// An identifier without dots or a numeral, as fields of records have.
+    pub fn is_label(self) -> bool
+        ensures value { result ≡ spec.is_label self }
+    {
+        match self {
+            Sort::Alphanumeric | Sort::Symbolic | Sort::Star | Sort::Numeral => true,
+            _ => false,
+        }
+    }
+
+    /// An identifier without dots other than `*`, as type constructors have.
+    pub fn is_tycon(self) -> bool
+        ensures value { result ≡ spec.is_tycon self }
+    {
+        match self {
+            Sort::Alphanumeric | Sort::Symbolic => true,
+            _ => false,
+        }
+    }
+
+    /// An identifier, long or not, whose last part isn't `*`: it may name a type constructor.
+    pub fn is_long_tycon(self) -> bool
+        ensures value { result ≡ spec.is_long_tycon self }
+    {
+        match self {
+            Sort::Alphanumeric | Sort::Symbolic | Sort::LongAlphanumeric | Sort::LongSymbolic => {
+                true
+            }
+            _ => false,
+        }
+    }
+
+    /// An alphanumeric identifier without dots, as structures and signatures have.
+    pub fn is_strid(self) -> bool
+        ensures value { result ≡ spec.is_strid self }
+    {
+        match self {
+            Sort::Alphanumeric => true,
+            _ => false,
+        }
+    }
+
+    /// An identifier, long or not, whose parts are all alphanumeric: it may name a structure.
+    pub fn is_long_strid(self) -> bool
+        ensures value { result ≡ spec.is_long_strid self }
+    {
+        match self {
+            Sort::Alphanumeric | Sort::LongAlphanumeric => true,
+            _ => false,
+        }
     }
 }

@@ -1,0 +1,115 @@
+// Which sorts of token can stand next in each state of a reader.
+ghost use Rattle.std.specs.Prelude.{◌≡◌, ℕ, List, is_some};
+ghost use Rattle.ty_parser.specs.Machine as machine;
+ghost use Rattle.ty_parser.specs.Machine.{stack_of};
+ghost use Rattle.ty_parser.specs.declared.reader.Operand.{Operand};
+ghost use Rattle.ty_parser.specs.declared.tree.FieldExp.{FieldExp};
+ghost use Rattle.ty_parser.specs.declared.tree.TyExp.{TyExp};
+
+use crate::reader::{Held, Opened};
+use crate::sort::Sort;
+use sig_base::Word;
+
+// Whether a comma can stand behind an operand.
+fn is_nested(held: &Held) -> bool
+    ensures { (ty : TyExp) → result ≡ is_some (machine.comma (stack_of held.now).outer ty) }
+{
+    !held.around.is_empty()
+}
+
+// Whether a right parenthesis can stand behind an operand.
+fn in_parens(held: &Held) -> bool
+    ensures { (ty : TyExp) → result ≡ is_some (machine.right_paren (stack_of held.now).outer ty) }
+{
+    match held.around.as_slice().last() {
+        None => false,
+        Some(opened) => match opened {
+            Opened::Parens(_, _) => true,
+            Opened::Braces(_, _, _) => false,
+        },
+    }
+}
+
+// Whether a right brace can stand behind an operand.
+fn in_braces(held: &Held) -> bool
+    ensures { (ty : TyExp) → result ≡ is_some (machine.right_brace (stack_of held.now).outer ty) }
+{
+    match held.around.as_slice().last() {
+        None => false,
+        Some(opened) => match opened {
+            Opened::Parens(_, _) => false,
+            Opened::Braces(_, _, _) => true,
+        },
+    }
+}
+
+#[tactic(auto, unfolding(crate::specs::Machine::leave))]
+fn can_leave(held: &Held, sort: Sort) -> bool
+    ensures { (ty : TyExp) → result ≡ is_some (machine.leave (stack_of held.now) ty sort) }
+{
+    match sort {
+        Sort::Star => true,
+        Sort::Reserved(Word::KwArrow) => true,
+        Sort::Reserved(Word::KwComma) => is_nested(held),
+        Sort::Reserved(Word::KwRParen) => in_parens(held),
+        Sort::Reserved(Word::KwRBrace) => in_braces(held),
+        _ => false,
+    }
+}
+
+#[tactic(auto, unfolding(crate::specs::Machine::have))]
+pub fn can_have(held: &Held, sort: Sort) -> bool
+    ensures { (a : Operand) (place : ℕ) → result ≡ is_some (machine.have (stack_of held.now) a place sort) }
+{
+    if sort.is_long_tycon() {
+        true
+    } else {
+        can_leave(held, sort)
+    }
+}
+
+#[tactic(auto, unfolding(crate::specs::Machine::begin))]
+fn can_begin(sort: Sort) -> bool
+    ensures { (k : machine.Stack) (place : ℕ) → result ≡ is_some (machine.begin k place sort) }
+{
+    match sort {
+        Sort::Variable => true,
+        Sort::Reserved(Word::KwLParen) => true,
+        Sort::Reserved(Word::KwLBrace) => true,
+        _ => false,
+    }
+}
+
+#[tactic(auto, unfolding(crate::specs::Machine::want))]
+pub fn can_want(sort: Sort) -> bool
+    ensures { (k : machine.Stack) (place : ℕ) → result ≡ is_some (machine.want k place sort) }
+{
+    if sort.is_long_tycon() {
+        true
+    } else {
+        can_begin(sort)
+    }
+}
+
+#[tactic(auto, unfolding(crate::specs::Machine::brace, crate::specs::Machine::no_fields))]
+pub fn can_brace(sort: Sort) -> bool
+    ensures { (k : machine.Stack) (place : ℕ) → result ≡ is_some (machine.brace k place sort) }
+{
+    if sort.is_label() {
+        return true;
+    }
+    match sort {
+        Sort::Reserved(Word::KwRBrace) => true,
+        _ => false,
+    }
+}
+
+#[tactic(auto, unfolding(crate::specs::Machine::colon))]
+pub fn can_colon(sort: Sort) -> bool
+    ensures { (k : machine.Stack) (fs : List FieldExp) (i : ℕ) → result ≡ is_some (machine.colon k fs i sort) }
+{
+    match sort {
+        Sort::Reserved(Word::KwColon) => true,
+        _ => false,
+    }
+}
