@@ -1,0 +1,14 @@
+pub mod Parts
+pub mod Equations
+pub mod Replacing
+pub mod Resolved
+pub mod NameLists
+pub mod Held
+pub mod ParameterLists
+pub mod Placed
+pub mod Kept
+pub mod Meant
+pub mod Walked
+pub mod Joined
+pub mod Counted
+pub mod Units

@@ -1,0 +1,10 @@
+pub mod Avoids
+pub mod Parameters
+pub mod Realizations
+pub mod Names
+pub mod Table
+pub mod Sound
+pub mod Places
+pub mod Meaning
+pub mod Externals
+pub mod Sized
