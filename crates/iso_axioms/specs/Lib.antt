@@ -1,0 +1,3 @@
+pub mod Axioms
+pub mod Theory
+pub mod SchemeEquality

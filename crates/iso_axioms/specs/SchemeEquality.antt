@@ -1,0 +1,9 @@
+-- Equality of schemes in a theory of types.
+use Rattle.type_core.specs.declared.ty.Scheme.{Scheme}
+use Rattle.type_core.specs.declared.ty.Ty.{Ty}
+use Rattle.type_core.specs.Renaming.{Renames, Renaming}
+
+-- some renaming, one-to-one on the variables of a and keeping marks, turns a into a type equal to b; in the theory of
+-- identity this is equality up to the names of variables
+abbrev pub AreEqualIn : (Ty → Ty → Type 0) → Scheme → Scheme → Type 0
+AreEqualIn Equal a b = (r : Renaming) × (c : Ty) × Renames r a.body c × Equal c b.body

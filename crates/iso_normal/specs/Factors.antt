@@ -1,0 +1,57 @@
+-- The linear factors of a type, and the type of a list of factors.
+use Rattle.std.specs.Prelude.{List, [], ◌∷◌, ◌++◌, map}
+use Rattle.type_core.specs.declared.ty.Ty.{Ty}
+use Rattle.type_core.specs.declared.ty.Field.{Field}
+use Rattle.type_core.specs.declared.ty.Ty.TheVariants as ty
+use Rattle.type_core.specs.declared.ty.Ty.TheOpen.{Ty-F, Var, Con, Rec, Tup, Arrow}
+use Rattle.type_core.specs.declared.ty.Ty.TheFolds.{para-Ty}
+use Rattle.type_core.specs.Lists.{concatenated}
+use Rattle.iso_axioms.specs.Axioms.{◌⇒◌, unit}
+use Rattle.iso_normal.specs.declared.factor.Factor.{Factor}
+use Rattle.iso_normal.specs.declared.factor.Factor.TheVariants as factor
+use Rattle.iso_normal.specs.declared.factor.Factor.TheOpen.{Factor-F, Atom, Arr}
+use Rattle.iso_normal.specs.declared.factor.Factor.TheViews.{out-Factor}
+use Rattle.iso_normal.specs.declared.factor.Factor.TheFolds.{fold-Factor}
+
+-- the arrow from the arguments to a factor: to an arrow, they stand before its own
+abbrev pub arrow_to : List Factor → Factor-F Factor → Factor
+arrow_to arguments (Atom t) = factor.Arr arguments (factor.Atom t ∷ [])
+arrow_to arguments (Arr own results) = factor.Arr (arguments ++ own) results
+
+-- the factors of an arrow, by those of its sides: without arguments the results, else one arrow
+abbrev pub factors_of_arrow : List Factor → List Factor → List Factor
+factors_of_arrow [] results = results
+factors_of_arrow (f ∷ arguments) [] = factor.Arr (f ∷ arguments) [] ∷ []
+factors_of_arrow (f ∷ arguments) (g ∷ []) = arrow_to (f ∷ arguments) (out-Factor g) ∷ []
+factors_of_arrow (f ∷ arguments) (g ∷ h ∷ results) = factor.Arr (f ∷ arguments) (g ∷ h ∷ results) ∷ []
+
+-- each part stands beside its factors: variables, applications and records are atoms, a tuple has the factors of its
+-- components, and an arrow those of its sides' arrow
+abbrev pub factors_step : Ty-F (Ty × List Factor) (Field × Unit {0}) → List Factor
+factors_step (Var v) = factor.Atom (ty.Var v) ∷ []
+factors_step (Con name arguments) = factor.Atom (ty.Con name (map (λ part. part.0) arguments)) ∷ []
+factors_step (Rec fields) = factor.Atom (ty.Rec (map (λ part. part.0) fields)) ∷ []
+factors_step (Tup components) = concatenated (map (λ part. part.1) components)
+factors_step (Arrow from to) = factors_of_arrow from.1 to.1
+
+-- the factors of the type
+unfoldable pub factors : Ty → List Factor
+factors = para-Ty (List Factor) (Unit {0}) factors_step (λ field. tt)
+
+-- the product of types: unit for none, the type itself for one, else the tuple
+abbrev pub product : List Ty → Ty
+product [] = unit
+product (t ∷ []) = t
+product (t ∷ u ∷ ts) = ty.Tup (t ∷ u ∷ ts)
+
+abbrev pub type_step : Factor-F Ty → Ty
+type_step (Atom t) = t
+type_step (Arr arguments results) = product arguments ⇒ product results
+
+-- the type of a factor: an atom itself, or from the product of the arguments to that of the results
+unfoldable pub type_of_factor : Factor → Ty
+type_of_factor = fold-Factor Ty type_step
+
+-- the type of a list of factors: the product of their types
+abbrev pub type_of_factors : List Factor → Ty
+type_of_factors fs = product (map type_of_factor fs)

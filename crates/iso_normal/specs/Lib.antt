@@ -1,0 +1,6 @@
+pub mod PairTrees
+pub mod Pairings
+pub mod Consistency
+pub mod Shapes
+pub mod Factors
+pub mod Agreement
