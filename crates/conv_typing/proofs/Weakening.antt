@@ -96,7 +96,7 @@ alone : (b a : Ty) (n : ℕ) → slice_get (b ∷ []) n ≡ Some a → b ≡ a
 alone b a zero p = some_is b a p
 alone b a (suc n) p = absurd (none_not a p)
 
-only_typed : (g : List Ty) (b : Ty) (e : Term) → HasType g e b → AreTyped (only (length g) e) (g ++ b ∷ []) g
+pub only_typed : (g : List Ty) (b : Ty) (e : Term) → HasType g e b → AreTyped (only (length g) e) (g ++ b ∷ []) g
 only_typed g b e k n a p is = cases (below_or_from n (length g))
   where
     cases : (n < length g) ⊎ (length g ≤ n) → HasType g (only (length g) e n) a
