@@ -1,0 +1,14 @@
+pub mod Meeting
+pub mod Unequal
+pub mod Extending
+pub mod Filling
+pub mod Weights
+pub mod Printed
+pub mod Searched
+pub mod Swapped
+pub mod SameCoordinates
+pub mod Tasked
+pub mod Gathered
+pub mod Named
+pub mod Whole
+pub mod MarksByNumber

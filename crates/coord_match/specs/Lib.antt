@@ -1,0 +1,5 @@
+pub mod Consistency
+pub mod Bindings
+pub mod Names
+pub mod Tasks
+pub mod Prints
