@@ -1,0 +1,11 @@
+pub mod Leads
+pub mod Covers
+pub mod Described
+pub mod Complete
+pub mod States
+pub mod Sound
+pub mod Closing
+pub mod Depth
+pub mod Files
+pub mod Reading
+pub mod Counting

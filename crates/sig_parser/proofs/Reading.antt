@@ -1,0 +1,175 @@
+-- Reading a file: the invariant of the loop, and what each way on or out gives.
+use Rattle.std.proofs.Common.{◌≡◌, ℕ, ◌+◌, ◌<◌, ◌≤◌, List, [], length, get_or, reverse, Option, Some, None, Result, Ok, Err, refl, ap, sym, ◌∙◌, subst, arith, inl, inr}
+use Rattle.std.specs.Prelude.{◌⊎◌, IfOk, IfErr}
+use Rattle.std.proofs.lemmas.List.{get_or-map, length-map}
+use Rattle.sml_lexer.specs.declared.token.Token.{Token}
+use Rattle.ty_parser.specs.declared.sort.Sort.{Sort}
+use Rattle.ty_parser.specs.declared.sort.Sort.TheVariants as s
+use Rattle.ty_parser.specs.declared.tree.ParseRefusal.{ParseRefusal}
+use Rattle.ty_parser.specs.declared.tree.ParseRefusal.TheVariants as refusal
+use Rattle.ty_parser.specs.Sorts.{sort_of, sorts_of}
+use Rattle.ty_parser.specs.Phrases.{StopsAt, TooDeepAt, IsShallow, Refuses, most_open, opens, closes}
+use Rattle.ty_parser.proofs.Runs.{of_some}
+use Rattle.ty_parser.proofs.Stops.{one_stop, one_depth, no_depth, deep_within}
+use Rattle.ty_parser.proofs.Viable.{ReadTo, opens_one, start_read, step_read, step_deep, step_stops, end_stops, end_found, one_tree}
+use Rattle.sig_parser.specs.declared.tree.SourceFile.{SourceFile}
+use Rattle.sig_parser.specs.Files.{File}
+use Rattle.sig_parser.specs.declared.point.Context.{Context}
+use Rattle.sig_parser.specs.declared.point.Reading.{Reading}
+use Rattle.sig_parser.specs.declared.point.Point.TheVariants as point
+use Rattle.sig_parser.specs.declared.point.Stage.TheVariants as stage
+use Rattle.sig_parser.specs.Machine as machine
+use Rattle.sig_parser.specs.Machine.{State, At, at_stage, state_of, step, finish, depth}
+use Rattle.sig_parser.proofs.Depth.{step_depth}
+use Rattle.sig_parser.proofs.Files.{files}
+
+-- the first so many tokens, none of them too deep, have led to the state
+pub record FileRead (bytes : List ℕ) (ts : List Token) (i : ℕ) (st : State) : Type 0 where
+  pub read : ReadTo files 0 (sorts_of bytes ts) i st
+
+pub start_file : (bytes : List ℕ) (ts : List Token) (c : Context) → c.decs ≡ [] → c.levels ≡ [] → FileRead bytes ts 0 (state_of (record { context = c; stage = stage.At point.Items }))
+start_file bytes ts c none closed = record { read = start_read files 0 (sorts_of bytes ts) (at_stage c (stage.At point.Items)) (omega arith) (λ i. At (none i) (reverse (closed i)) point.Items) }
+
+-- the token at the place
+module _ (bytes : List ℕ) (ts : List Token) (i : ℕ) (st : State) (d : Token) (so : Sort) (to : FileRead bytes ts i st) (lt : i < length ts) (is : so ≡ sort_of bytes (get_or ts i d)) where
+  there : i < length (sorts_of bytes ts)
+  there = omega (arith, lt, length-map ts (sort_of bytes))
+
+  sort_there : so ≡ get_or (sorts_of bytes ts) i s.Variable
+  sort_there = is ∙ sym (get_or-map (sort_of bytes) ts i d s.Variable lt)
+
+  here : (o : Option State) → step st (i, so) ≡ o → step st (0 + i, so) ≡ o
+  here o e =
+      let same : 0 + i ≡ i = omega arith in
+      ap (λ n. step st (n, so)) same ∙ e
+
+  module _ (st' : State) (e : Some st' ≡ step st (i, so)) where
+    pub file_low : depth st' ≤ most_open + 1
+    file_low =
+        let few = opens_one so in
+        let deepens = of_some (λ x. opens so + depth st ≡ closes so + depth x) _ st' (sym e) (step_depth st i so) in
+        let low = to.read.low in
+        omega (arith, few, deepens, low)
+
+    pub file_read : depth st' ≤ most_open → FileRead bytes ts (i + 1) st'
+    file_read low = record { read = step_read files 0 _ i so st there sort_there to.read st' (here (Some st') (sym e)) (omega (arith, low)) }
+
+    pub file_deep : most_open < depth st' → TooDeepAt File 0 (sorts_of bytes ts) i × IsShallow File 0 (sorts_of bytes ts) i
+    file_deep high = step_deep files 0 _ i so st there sort_there to.read st' (here (Some st') (sym e)) (omega (arith, high))
+
+  pub file_stops : step st (i, so) ≡ None → StopsAt File (sorts_of bytes ts) i × IsShallow File 0 (sorts_of bytes ts) i
+  file_stops e = step_stops files 0 _ i so st there sort_there to.read (here None e)
+
+-- the end of the tokens
+module _ (bytes : List ℕ) (ts : List Token) (i : ℕ) (st : State) (to : FileRead bytes ts i st) (e : i ≡ length ts) where
+  all : i ≡ length (sorts_of bytes ts)
+  all = omega (arith, e, length-map ts (sort_of bytes))
+
+  pub file_ends : finish st ≡ None → StopsAt File (sorts_of bytes ts) i × IsShallow File 0 (sorts_of bytes ts) i
+  file_ends none = end_stops files 0 (sorts_of bytes ts) i st to.read all none
+
+  pub file_found : (f : SourceFile) → finish st ≡ Some f → File (sorts_of bytes ts) f × IsShallow File 0 (sorts_of bytes ts) (length ts)
+  file_found f found =
+      let h = end_found files 0 (sorts_of bytes ts) i st to.read all f found in
+      (h.0, subst (IsShallow File 0 (sorts_of bytes ts)) (length-map ts (sort_of bytes)) h.1)
+
+-- a token leads to no more than one open token more
+pub step_low : (st : State) (i : ℕ) (so : Sort) (st' : State) → depth st ≤ most_open → Some st' ≡ step st (i, so) → depth st' ≤ most_open + 1
+step_low st i so st' low e =
+    let few = opens_one so in
+    let deepens = of_some (λ x. opens so + depth st ≡ closes so + depth x) _ st' (sym e) (step_depth st i so) in
+    omega (arith, few, deepens, low)
+
+-- what the test of the depth keeps of a step
+module _ (st : State) (i : ℕ) (so : Sort) (x : Reading) (e : Some (state_of x) ≡ step st (i, so)) where
+  pub shallow_next : (r : Result Reading ParseRefusal) → IfOk r (λ y. y ≡ x) → IfOk r (λ y. step st (i, so) ≡ Some (state_of y))
+  shallow_next (Ok y) same = sym e ∙ ap (λ y. Some (state_of y)) (sym same)
+  shallow_next (Err f) same = tt
+
+  pub shallow_refused : (r : Result Reading ParseRefusal) → IfErr r (λ f. (f ≡ refusal.TooDeep i) × (most_open < depth (state_of x))) → IfErr r (λ f. machine.Refuses st i so f)
+  shallow_refused (Ok y) h = tt
+  shallow_refused (Err f) h =
+      let P : ParseRefusal → Type 0 = λ f. machine.Refuses st i so f in
+      subst P (sym h.0) (refl, state_of x, sym e, h.1)
+
+pub read_low : (bytes : List ℕ) (ts : List Token) (i : ℕ) (st : State) → FileRead bytes ts i st → depth st ≤ most_open
+read_low bytes ts i st to = let low = to.read.low in omega (arith, low)
+
+-- what one step gives
+module _ (bytes : List ℕ) (ts : List Token) (i : ℕ) (st : State) (d : Token) (so : Sort) (to : FileRead bytes ts i st) (lt : i < length ts) (is : so ≡ sort_of bytes (get_or ts i d)) where
+  refused_by : (e : ParseRefusal) → machine.Refuses st i so e → Refuses File (sorts_of bytes ts) e
+  refused_by (refusal.Syntax k) h =
+      let P : ℕ → Type 0 = λ k. StopsAt File (sorts_of bytes ts) k × IsShallow File 0 (sorts_of bytes ts) k in
+      subst P (sym h.0) (file_stops bytes ts i st d so to lt is h.1)
+  refused_by (refusal.TooDeep k) h =
+      let P : ℕ → Type 0 = λ k. TooDeepAt File 0 (sorts_of bytes ts) k × IsShallow File 0 (sorts_of bytes ts) k in
+      subst P (sym h.0) (file_deep bytes ts i st d so to lt is h.1 (sym h.2) h.3)
+  refused_by refusal.NoMemory h = tt
+
+  pub file_refused : (r : Result Reading ParseRefusal) (e : ParseRefusal) → r ≡ Err e → IfErr r (λ e. machine.Refuses st i so e) → Refuses File (sorts_of bytes ts) e
+  file_refused r e same h =
+      let P : Result Reading ParseRefusal → Type 0 = λ r. IfErr r (λ e. machine.Refuses st i so e) in
+      refused_by e (subst P same h)
+
+  pub file_next : (r : Result Reading ParseRefusal) (x : Reading) → r ≡ Ok x → IfOk r (λ x. step st (i, so) ≡ Some (state_of x)) → IfOk r (λ x. depth (state_of x) ≤ most_open) → FileRead bytes ts (i + 1) (state_of x)
+  file_next r x same h low =
+      let P : Result Reading ParseRefusal → Type 0 = λ r. IfOk r (λ x. step st (i, so) ≡ Some (state_of x)) in
+      let Q : Result Reading ParseRefusal → Type 0 = λ r. IfOk r (λ x. depth (state_of x) ≤ most_open) in
+      file_read bytes ts i st d so to lt is (state_of x) (sym (subst P same h)) (subst Q same low)
+
+-- what the end gives
+module _ (bytes : List ℕ) (ts : List Token) (i : ℕ) (st : State) (to : FileRead bytes ts i st) (e : i ≡ length ts) where
+  end_refused_by : (r : ParseRefusal) → machine.RefusesEnd st i r → Refuses File (sorts_of bytes ts) r
+  end_refused_by (refusal.Syntax k) h =
+      let P : ℕ → Type 0 = λ k. StopsAt File (sorts_of bytes ts) k × IsShallow File 0 (sorts_of bytes ts) k in
+      subst P (sym h.0) (file_ends bytes ts i st to e h.1)
+  end_refused_by (refusal.TooDeep k) h = absurd h
+  end_refused_by refusal.NoMemory h = tt
+
+  pub end_tree : (r : Result SourceFile ParseRefusal) → IfOk r (λ f. finish st ≡ Some f) → IfOk r (λ f. File (sorts_of bytes ts) f)
+  end_tree (Ok f) h = (file_found bytes ts i st to e f h).0
+  end_tree (Err r) h = tt
+
+  pub end_shallow : (r : Result SourceFile ParseRefusal) → IfOk r (λ f. finish st ≡ Some f) → IfOk r (λ _. IsShallow File 0 (sorts_of bytes ts) (length ts))
+  end_shallow (Ok f) h = (file_found bytes ts i st to e f h).1
+  end_shallow (Err r) h = tt
+
+  pub end_refused : (r : Result SourceFile ParseRefusal) → IfErr r (λ r. machine.RefusesEnd st i r) → IfErr r (λ r. Refuses File (sorts_of bytes ts) r)
+  end_refused (Ok f) h = tt
+  end_refused (Err r) h = end_refused_by r h
+
+-- what reading gives is the one thing that it can give
+module _ (bytes : List ℕ) (ts : List Token) (r : Result SourceFile ParseRefusal) (tree : IfOk r (λ f. File (sorts_of bytes ts) f)) (shallow : IfOk r (λ _. IsShallow File 0 (sorts_of bytes ts) (length ts))) (refused : IfErr r (λ e. Refuses File (sorts_of bytes ts) e)) where
+  abbrev ss : List Sort
+  ss = sorts_of bytes ts
+
+  pub only_tree : (f : SourceFile) → File ss f → IsShallow File 0 ss (length ts) → (r ≡ Ok f) ⊎ (r ≡ Err refusal.NoMemory)
+  only_tree f d low = by_result r tree refused
+    where
+      by_result : (r : Result SourceFile ParseRefusal) → IfOk r (λ f. File ss f) → IfErr r (λ e. Refuses File ss e) → (r ≡ Ok f) ⊎ (r ≡ Err refusal.NoMemory)
+      by_result (Ok g) h k = inl (ap Ok (one_tree files ss g f h d))
+      by_result (Err (refusal.Syntax k)) h e = absurd (e.0.no_phrase f d)
+      by_result (Err (refusal.TooDeep k)) h e =
+          let within : k < length ts = omega (arith, deep_within File ss 0 k e.0, length-map ts (sort_of bytes)) in
+          absurd (low k within e.0)
+      by_result (Err refusal.NoMemory) h e = inr refl
+
+  pub only_syntax : (k : ℕ) → StopsAt File ss k → IsShallow File 0 ss k → (r ≡ Err (refusal.Syntax k)) ⊎ (r ≡ Err refusal.NoMemory)
+  only_syntax k stops low = by_result r tree refused
+    where
+      by_result : (r : Result SourceFile ParseRefusal) → IfOk r (λ f. File ss f) → IfErr r (λ e. Refuses File ss e) → (r ≡ Err (refusal.Syntax k)) ⊎ (r ≡ Err refusal.NoMemory)
+      by_result (Ok g) h e = absurd (stops.no_phrase g h)
+      by_result (Err (refusal.Syntax j)) h e = inl (ap (λ n. Err (refusal.Syntax n)) (one_stop File ss j k e.0 stops))
+      by_result (Err (refusal.TooDeep j)) h e = absurd (no_depth File ss 0 k j stops.reaches low e.0)
+      by_result (Err refusal.NoMemory) h e = inr refl
+
+  pub only_too_deep : (k : ℕ) → TooDeepAt File 0 ss k → IsShallow File 0 ss k → (r ≡ Err (refusal.TooDeep k)) ⊎ (r ≡ Err refusal.NoMemory)
+  only_too_deep k deep low = by_result r tree shallow refused
+    where
+      by_result : (r : Result SourceFile ParseRefusal) → IfOk r (λ f. File ss f) → IfOk r (λ _. IsShallow File 0 ss (length ts)) → IfErr r (λ e. Refuses File ss e) → (r ≡ Err (refusal.TooDeep k)) ⊎ (r ≡ Err refusal.NoMemory)
+      by_result (Ok g) h all e =
+          let within : k < length ts = omega (arith, deep_within File ss 0 k deep, length-map ts (sort_of bytes)) in
+          absurd (all k within deep)
+      by_result (Err (refusal.Syntax j)) h all e = absurd (no_depth File ss 0 j k e.0.reaches e.1 deep)
+      by_result (Err (refusal.TooDeep j)) h all e = inl (ap (λ n. Err (refusal.TooDeep n)) (one_depth File ss 0 j k e.0 e.1 deep low))
+      by_result (Err refusal.NoMemory) h all e = inr refl

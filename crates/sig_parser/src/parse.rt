@@ -1,0 +1,118 @@
+// The parser of signature files.
+ghost use Rattle.std.specs.Prelude.{◌≡◌, ◌<◌, ◌≤◌, ◌⊎◌, ℕ, ◌+◌, Some, Ok, Err, List, length, IfOk, IfErr};
+ghost use Rattle.sml_lexer.specs.Tokens.{tokens as tokens_of};
+ghost use Rattle.ty_parser.specs.Sorts.{sorts_of};
+ghost use Rattle.ty_parser.specs.Phrases.{IsShallow, Refuses, StopsAt, TooDeepAt, most_open};
+ghost use Rattle.ty_parser.specs.declared.sort.Sort.{Sort};
+ghost use Rattle.ty_parser.specs.declared.tree.ParseRefusal.TheVariants.{Syntax, TooDeep, NoMemory};
+ghost use Rattle.sig_parser.specs.Files.{File};
+ghost use Rattle.sig_parser.specs.Machine as machine;
+ghost use Rattle.sig_parser.specs.Machine.{state_of};
+ghost use Rattle.sig_parser.specs.declared.tree.SourceFile.{SourceFile};
+
+use crate::point::{Context, Point, Reading, Stage};
+use crate::stage::finish;
+use crate::tree::SourceFile;
+use sml_lexer::Token;
+use std::alloc::Global;
+use ty_parser::{ParseRefusal, Sort, sort_of};
+
+// How many of the tokens `(`, `{` and `sig` may be open.
+const MOST_OPEN: u32 = 200;
+
+/// The file that the tokens are, all of them: they are what `lex` gave for the bytes (the Definition of
+/// Standard ML, sections 2.4 and 3.4, as specs/Grammar.antt has it). At most 200 of the tokens `(`, `{`
+/// and `sig` may be open.
+/// `Syntax(k)` comes exactly where the first k tokens begin a file and no more of them do, or k is the
+/// number of tokens and they are no file. `TooDeep(k)` comes exactly where token k is a `(`, a `{` or a
+/// `sig` that can stand there and 200 are open before it. What comes first decides.
+pub fn parse_file(alloc: Global, bytes: &[u8], tokens: &[Token]) -> Result<SourceFile, ParseRefusal>
+    requires size { length bytes.now ≤ 4194304 }
+    requires tokens { tokens_of bytes.now tokens.now }
+    ensures tree { IfOk result (λ f. File (sorts_of bytes.now tokens.now) f) }
+    ensures shallow { IfOk result (λ _. IsShallow File 0 (sorts_of bytes.now tokens.now) (length tokens.now)) }
+    ensures refusal { IfErr result (λ refusal. Refuses File (sorts_of bytes.now tokens.now) refusal) }
+    ensures only_tree { (f : SourceFile) → File (sorts_of bytes.now tokens.now) f
+        → IsShallow File 0 (sorts_of bytes.now tokens.now) (length tokens.now)
+        → (result ≡ Ok f) ⊎ (result ≡ Err NoMemory) }
+    ensures only_syntax { (k : ℕ) → StopsAt File (sorts_of bytes.now tokens.now) k
+        → IsShallow File 0 (sorts_of bytes.now tokens.now) k
+        → (result ≡ Err (Syntax k)) ⊎ (result ≡ Err NoMemory) }
+    ensures only_too_deep { (k : ℕ) → TooDeepAt File 0 (sorts_of bytes.now tokens.now) k
+        → IsShallow File 0 (sorts_of bytes.now tokens.now) k
+        → (result ≡ Err (TooDeep k)) ⊎ (result ≡ Err NoMemory) }
+{
+    read_file(alloc, bytes, tokens)
+}
+
+fn read_file(alloc: Global, bytes: &[u8], tokens: &[Token]) -> Result<SourceFile, ParseRefusal>
+    requires size { length bytes.now ≤ 4194304 }
+    requires tokens { tokens_of bytes.now tokens.now }
+    ensures tree { IfOk result (λ f. File (sorts_of bytes.now tokens.now) f) }
+    ensures shallow { IfOk result (λ _. IsShallow File 0 (sorts_of bytes.now tokens.now) (length tokens.now)) }
+    ensures refusal { IfErr result (λ refusal. Refuses File (sorts_of bytes.now tokens.now) refusal) }
+{
+    let mut reading = Reading {
+        context: Context::new(alloc),
+        stage: Stage::At(Point::Items),
+    };
+    let mut place: u32 = 0;
+    'tokens: while (place as usize) < tokens.len() {
+        let sort = sort_of(bytes, tokens[place as usize]);
+        match step(alloc, reading, place, sort) {
+            Err(refusal) => return Err(refusal),
+            Ok(further) => reading = further,
+        }
+        place += 1;
+    }
+    ended(alloc, reading, place)
+}
+
+// The reading after a token with this number and sort.
+fn step(alloc: Global, reading: Reading, place: u32, sort: Sort) -> Result<Reading, ParseRefusal>
+    requires low { machine.depth (state_of reading) ≤ most_open }
+    ensures next { IfOk result (λ r. machine.step (state_of reading) (place, sort) ≡ Some (state_of r)) }
+    ensures low { IfOk result (λ r. machine.depth (state_of r) ≤ most_open) }
+    ensures refusal { IfErr result (λ e. machine.Refuses (state_of reading) place sort e) }
+{
+    match reading.next(alloc, place, sort)? {
+        None => Err(ParseRefusal::Syntax(place)),
+        Some(further) => shallow(further, place),
+    }
+}
+
+// The reading after this token, where not too many are open.
+fn shallow(reading: Reading, place: u32) -> Result<Reading, ParseRefusal>
+    requires low { machine.depth (state_of reading) ≤ most_open + 1 }
+    ensures same { IfOk result (λ r. r ≡ reading) }
+    ensures low { IfOk result (λ r. machine.depth (state_of r) ≤ most_open) }
+    ensures refusal { IfErr result (λ e. (e ≡ TooDeep place) × (most_open < machine.depth (state_of reading))) }
+{
+    if reading.context.depth(&reading.stage) > MOST_OPEN {
+        Err(ParseRefusal::TooDeep(place))
+    } else {
+        Ok(reading)
+    }
+}
+
+// What reading gives at the end of the tokens, where there are so many.
+fn ended(alloc: Global, reading: Reading, count: u32) -> Result<SourceFile, ParseRefusal>
+    ensures tree { IfOk result (λ f. machine.finish (state_of reading) ≡ Some f) }
+    ensures refusal { IfErr result (λ e. machine.RefusesEnd (state_of reading) count e) }
+{
+    let Reading { context, stage } = reading;
+    match finish(alloc, context, stage)? {
+        None => Err(ParseRefusal::Syntax(count)),
+        Some(file) => Ok(file),
+    }
+}
+
+/// One list of tokens has at most one tree.
+pub fn one_tree()
+    ensures { (ss : List Sort) (f g : SourceFile) → File ss f → File ss g → f ≡ g }
+{}
+
+/// A list of tokens stops being a file at one place.
+pub fn one_stop()
+    ensures { (ss : List Sort) (j k : ℕ) → StopsAt File ss j → StopsAt File ss k → j ≡ k }
+{}
