@@ -37,8 +37,8 @@ undecided status large decided = omega (arith, decided)
 due_refusal : (told : Option FileMap) (command : Command) (bytes : List ℕ) (r : Refusal) → Holds told command.file bytes → length bytes ≤ source_limit → SearchFails bytes command.query r → Refuses told command r
 due_refusal told command bytes refusal.ReadFault holds short (members, library, none) = absurd none
 due_refusal told command bytes refusal.TooLong holds short (members, library, none) = absurd none
-due_refusal told command bytes (refusal.File at) holds short (place, fails, is) = λ _. rw (is.0, is.1) (bad_file holds short fails)
-due_refusal told command bytes (refusal.Query at) holds short (members, library, (small, (place, fails, is))) = λ _. rw (is.0, is.1) (bad_query holds short library small fails)
+due_refusal told command bytes (refusal.File fault at) holds short (place, fails, is) = λ _. rw (is.0, is.1) (bad_file holds short fails)
+due_refusal told command bytes (refusal.Query fault at) holds short (members, library, (small, (place, fails, is))) = λ _. rw (is.0, is.1) (bad_query holds short library small fails)
 due_refusal told command bytes refusal.QueryTooLarge holds short (members, library, large) = λ _. long_query holds short library large
 due_refusal told command bytes refusal.NoMemory holds short fails = λ decided. absurd (undecided 7 (omega arith) decided)
 

@@ -10,16 +10,19 @@ use Rattle.isosearch.specs.Words.{Command}
 use Rattle.isosearch.specs.declared.report.Report.{Report}
 use Rattle.isosearch.specs.declared.run.Refusal.{Refusal}
 use Rattle.isosearch.specs.declared.run.Refusal.TheVariants as refusal
-use Rattle.isosearch.proofs.DueOne.{due_is_one}
 use Rattle.isosearch.proofs.Saying.{Appends-none}
 
+-- one outcome is due, where the files are told
+abbrev pub OneOutcome : Type 0
+OneOutcome = (files : FileMap) (command : Command) (a b : Outcome) → Due (Some files) command a → Due (Some files) command b → a ≡ b
+
 -- a run that ends as is due ends with each outcome that is due
-ends_exactly : (told : Option FileMap) (command : Command) (status : ℕ) (out_before out_now err_before err_now : Option (List ℕ)) (count later : ℕ)
+ends_exactly : OneOutcome → (told : Option FileMap) (command : Command) (status : ℕ) (out_before out_now err_before err_now : Option (List ℕ)) (count later : ℕ)
     → EndsAsDue told command status out_before out_now err_before err_now count later → EndsExactly told command status out_before out_now err_before err_now count later
-ends_exactly None command status out_before out_now err_before err_now count later ends = tt
-ends_exactly (Some files) command status out_before out_now err_before err_now count later ends = λ outcome due.
+ends_exactly one None command status out_before out_now err_before err_now count later ends = tt
+ends_exactly one (Some files) command status out_before out_now err_before err_now count later ends = λ outcome due.
     let E : Outcome → Type 0 = λ o. EndsWith o status out_before out_now err_before err_now count later in
-    subst E (due_is_one files command ends.outcome outcome ends.due due) ends.ends
+    subst E (one files command ends.outcome outcome ends.due due) ends.ends
 
 -- what a run has written that ends with each outcome that is due
 ends_completely : (told : Option FileMap) (command : Command) (status : ℕ) (out_before out_now err_before err_now : Option (List ℕ)) (count later : ℕ)
@@ -35,8 +38,8 @@ wanted_memory (Some files) command status out_before out_now is = λ outcome due
 how_refused : (command : Command) (r : Refusal) → IsDecided (outcome_of command r).status ⊎ ((r ≡ refusal.ReadFault) ⊎ (r ≡ refusal.NoMemory))
 how_refused command refusal.ReadFault = inr (inl refl)
 how_refused command refusal.TooLong = inl (inr (inr (inl refl)))
-how_refused command (refusal.File at) = inl (inr (inr (inl refl)))
-how_refused command (refusal.Query at) = inl (inr (inr (inr refl)))
+how_refused command (refusal.File fault at) = inl (inr (inr (inl refl)))
+how_refused command (refusal.Query fault at) = inl (inr (inr (inr refl)))
 how_refused command refusal.QueryTooLarge = inl (inr (inr (inr refl)))
 how_refused command refusal.NoMemory = inr (inr refl)
 
@@ -44,15 +47,15 @@ how_refused command refusal.NoMemory = inr (inr refl)
 out_of_refused : (command : Command) (r : Refusal) → (outcome_of command r).out ≡ []
 out_of_refused command refusal.ReadFault = refl
 out_of_refused command refusal.TooLong = refl
-out_of_refused command (refusal.File at) = refl
-out_of_refused command (refusal.Query at) = refl
+out_of_refused command (refusal.File fault at) = refl
+out_of_refused command (refusal.Query fault at) = refl
 out_of_refused command refusal.QueryTooLarge = refl
 out_of_refused command refusal.NoMemory = refl
 
-module _ (told : Option FileMap) (command : Command) (r : Report) (status : ℕ) (out_before out_now err_before err_now : Option (List ℕ)) (due : Due told command (reported r))
+module _ (one : OneOutcome) (told : Option FileMap) (command : Command) (r : Report) (status : ℕ) (out_before out_now err_before err_now : Option (List ℕ)) (due : Due told command (reported r))
     (statuses : (status ≡ (reported r).status) ⊎ (status ≡ 6)) (whole : (status ≡ 6 → ⊥) → Appends out_before out_now r.text × (err_now ≡ err_before)) where
   printed : (count later : ℕ) → (status ≡ 6 → ⊥) → EndsExactly told command status out_before out_now err_before err_now count later
-  printed count later written = ends_exactly told command status out_before out_now err_before err_now count later (record {
+  printed count later written = ends_exactly one told command status out_before out_now err_before err_now count later (record {
     outcome = reported r;
     due = due;
     ends = record { status_is = by statuses; written = (whole written).0; said = inl (rw (whole written).1 (Appends-none err_before)) };
@@ -68,10 +71,10 @@ module _ (told : Option FileMap) (command : Command) (r : Report) (status : ℕ)
   pub printed_completely : (status ≡ 6 → ⊥) → Completes told command status out_before out_now
   printed_completely written = ends_completely told command status out_before out_now err_before err_now 0 0 (printed 0 0 written)
 
-module _ (told : Option FileMap) (command : Command) (r : Refusal) (status : ℕ) (out err_before err_now : Option (List ℕ)) (count later : ℕ) (refuses : Refuses told command r)
+module _ (one : OneOutcome) (told : Option FileMap) (command : Command) (r : Refusal) (status : ℕ) (out err_before err_now : Option (List ℕ)) (count later : ℕ) (refuses : Refuses told command r)
     (is : status ≡ (outcome_of command r).status) (says : Says err_before err_now count later (outcome_of command r).err) where
   refused : IsDecided (outcome_of command r).status → EndsExactly told command status out out err_before err_now count later
-  refused decided = ends_exactly told command status out out err_before err_now count later (record {
+  refused decided = ends_exactly one told command status out out err_before err_now count later (record {
     outcome = outcome_of command r;
     due = refuses decided;
     ends = record { status_is = is; written = rw (out_of_refused command r) (Appends-none out); said = says };

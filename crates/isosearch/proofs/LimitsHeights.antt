@@ -9,7 +9,7 @@ use Rattle.type_core.specs.declared.ty.Ty.TheFolds.{fold-roll-Ty}
 use Rattle.type_core.specs.Height.{height_of, height_step, height_field_step}
 use Rattle.type_core.specs.Lists.{greatest_of}
 use Rattle.ty_parser.specs.declared.tree.TyExp.{TyExp}
-use Rattle.ty_parser.specs.declared.tree.TyExp.TheOpen.{Var, Tuple, Arrows, Apply}
+use Rattle.ty_parser.specs.declared.tree.TyExp.TheOpen.{Var, Fields, Tuple, Arrows, Apply}
 use Rattle.isosearch.specs.Elaboration.{text_of, application, applied_on, applied, arrows_from, arrows, type_of}
 use Rattle.isosearch.specs.Measures.{arrows_height_from, arrows_height, applied_height, expression_height, expression_height_step}
 use Rattle.isosearch.proofs.LimitsFusion.{IsStepOf, measured}
@@ -56,6 +56,7 @@ height_arrows (side ∷ sides) = height_arrows_from side sides
 
 height_is_step : (texts : List (List ℕ)) → IsStepOf texts height_of expression_height_step
 height_is_step texts (Var i) = height_var _
+height_is_step texts (Fields fields) = height_tup []
 height_is_step texts (Tuple ts) = height_tup ts
 height_is_step texts (Arrows sides) = height_arrows sides
 height_is_step texts (Apply ts constructors) = height_applied texts ts constructors

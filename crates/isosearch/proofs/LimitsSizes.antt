@@ -8,7 +8,7 @@ use Rattle.type_core.specs.Lists.{sum_of}
 use Rattle.type_core.specs.Size.{size_of}
 use Rattle.type_core.proofs.Trees.{size_var, size_con, size_tup, size_arrow}
 use Rattle.ty_parser.specs.declared.tree.TyExp.{TyExp}
-use Rattle.ty_parser.specs.declared.tree.TyExp.TheOpen.{Var, Tuple, Arrows, Apply}
+use Rattle.ty_parser.specs.declared.tree.TyExp.TheOpen.{Var, Fields, Tuple, Arrows, Apply}
 use Rattle.isosearch.specs.Elaboration.{text_of, application, applied_on, applied, arrows_from, arrows, type_of}
 use Rattle.isosearch.specs.Measures.{arrows_size, applied_size, expression_size, expression_size_step}
 use Rattle.isosearch.proofs.LimitsFusion.{IsStepOf, measured}
@@ -43,6 +43,7 @@ size_arrows (side ∷ sides) = omega (arith, size_arrows_from side sides, length
 
 size_is_step : (texts : List (List ℕ)) → IsStepOf texts size_of expression_size_step
 size_is_step texts (Var i) = size_var _
+size_is_step texts (Fields fields) = size_tup []
 size_is_step texts (Tuple ts) = size_tup ts
 size_is_step texts (Arrows sides) = size_arrows sides
 size_is_step texts (Apply ts constructors) = size_applied texts ts constructors

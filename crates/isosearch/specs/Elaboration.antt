@@ -9,7 +9,7 @@ use Rattle.type_core.specs.declared.ty.Ty.TheVariants as ty
 use Rattle.type_core.specs.InitialNames.{initial_names}
 use Rattle.type_core.specs.Schemes.{closed}
 use Rattle.ty_parser.specs.declared.tree.TyExp.{TyExp}
-use Rattle.ty_parser.specs.declared.tree.TyExp.TheOpen.{TyExp-F, Var, Tuple, Arrows, Apply}
+use Rattle.ty_parser.specs.declared.tree.TyExp.TheOpen.{TyExp-F, FieldExp-F, Var, Fields, Tuple, Arrows, Apply}
 use Rattle.ty_parser.specs.declared.tree.TyExp.TheFolds.{fold-TyExp}
 
 -- the texts of all tokens
@@ -71,16 +71,21 @@ abbrev pub arrows : List Ty → Ty
 arrows [] = ty.Tup []
 arrows (side ∷ sides) = arrows_from side sides
 
--- the type of one level, over the types of its parts
-abbrev pub type_step : List (List ℕ) → TyExp-F Ty → Ty
+-- the type of one level, over the types of its parts; a record, which isn't built yet, is the tuple of none
+abbrev pub type_step : List (List ℕ) → TyExp-F Ty Ty → Ty
 type_step texts (Var i) = ty.Var (variable texts i)
+type_step texts (Fields fields) = ty.Tup []
 type_step texts (Tuple parts) = ty.Tup parts
 type_step texts (Arrows sides) = arrows sides
 type_step texts (Apply arguments constructors) = applied texts arguments constructors
 
+-- a field stands for its type
+abbrev pub type_field_step : FieldExp-F Ty Ty → Ty
+type_field_step field = field.ty
+
 -- the type that a type expression stands for
 abbrev pub type_of : List (List ℕ) → TyExp → Ty
-type_of texts = fold-TyExp Ty (type_step texts)
+type_of texts = fold-TyExp Ty Ty (type_step texts) type_field_step
 
 -- its scheme, for all values of its variables
 abbrev pub scheme_of : List (List ℕ) → TyExp → Scheme

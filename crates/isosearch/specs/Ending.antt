@@ -7,7 +7,7 @@ use Rattle.type_core.specs.InitialNames.{initial_names}
 use Rattle.type_core.specs.declared.member.Member.{Member}
 use Rattle.type_core.specs.declared.ty.Scheme.{Scheme}
 use Rattle.isosearch.specs.Library.{IsLibrary}
-use Rattle.isosearch.specs.Lines.{Says, no_memory_line, not_built, not_read_line, query_name, refusal_at, too_large, too_long_line}
+use Rattle.isosearch.specs.Lines.{Says, fault_text, no_memory_line, not_read_line, query_name, refusal_at, too_large, too_long_line}
 use Rattle.isosearch.specs.Outcome.{Due, Outcome, refused, source_limit}
 use Rattle.isosearch.specs.Query.{IsQuery}
 use Rattle.isosearch.specs.Report.{Hits, report}
@@ -36,8 +36,8 @@ reported r = record { status = if r.hits == 0 then 1 else 0; out = r.text; err =
 abbrev pub outcome_of : Command → Refusal → Outcome
 outcome_of command refusal.ReadFault = refused 5 (not_read_line command.file)
 outcome_of command refusal.TooLong = refused 3 (too_long_line command.file)
-outcome_of command (refusal.File at) = refused 3 (refusal_at command.file at.line at.col not_built)
-outcome_of command (refusal.Query at) = refused 4 (refusal_at query_name at.line at.col not_built)
+outcome_of command (refusal.File fault at) = refused 3 (refusal_at command.file at.line at.col (fault_text fault))
+outcome_of command (refusal.Query fault at) = refused 4 (refusal_at query_name at.line at.col (fault_text fault))
 outcome_of command refusal.QueryTooLarge = refused 4 (refusal_at query_name 1 1 too_large)
 outcome_of command refusal.NoMemory = refused 7 no_memory_line
 

@@ -1,5 +1,7 @@
+pub mod Describing
 pub mod Elaboration
 pub mod Ending
+pub mod Forms
 pub mod Library
 pub mod Limits
 pub mod Lines
@@ -8,8 +10,7 @@ pub mod Outcome
 pub mod Query
 pub mod Refusals
 pub mod Report
-pub mod SourceFile
-pub mod SourceMachine
 pub mod Sources
+pub mod Stages
 pub mod Texts
 pub mod Words

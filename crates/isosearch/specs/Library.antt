@@ -1,62 +1,56 @@
 -- The library of a signature file, and where a file is refused.
-use Rattle.std.specs.Prelude.{◌≡◌, ℕ, List, [], ◌∷◌, ◌++◌, ⊤, map, length, slice_get, codes}
-use Rattle.std.specs.Option.{option_map_or}
-use Rattle.sml_lexer.specs.declared.token.Token.{Token}
-use Rattle.sml_lexer.specs.Tokens.{tokens as tokens_of, NotBuiltAt}
-use Rattle.ty_parser.specs.declared.tree.TypeAt.{TypeAt}
+use Rattle.std.specs.Prelude.{ℕ, Bool, false, ◌||◌, List, [], ◌∷◌, ◌++◌, ⊤, Result, Ok, Err, codes, bytes_eq, if◌then◌else◌}
 use Rattle.type_core.specs.declared.member.Kind.TheVariants.{Val}
 use Rattle.type_core.specs.declared.member.Member.{Member}
 use Rattle.type_core.specs.Schemes.{IsScheme}
-use Rattle.isosearch.specs.declared.source_file.SourceFile.{SourceFile}
-use Rattle.isosearch.specs.declared.source_file.ValDesc.{ValDesc}
-use Rattle.isosearch.specs.Elaboration.{scheme_of, text_of, texts_of, type_of}
-use Rattle.isosearch.specs.Limits.{IsWithinLimits}
-use Rattle.isosearch.specs.SourceFile.{FileStopsAt, IsSourceFile}
+use Rattle.sig_parser.specs.declared.tree.SourceFile.{SourceFile}
+use Rattle.sig_parser.specs.declared.tree.ValDesc.{ValDesc}
+use Rattle.sig_parser.specs.Files.{File}
+use Rattle.isosearch.specs.declared.fault.Fault.{Fault}
+use Rattle.isosearch.specs.Elaboration.{scheme_of, text_of}
+use Rattle.isosearch.specs.Forms.{Item, Value, Unbuilt, is_accepted, items_of}
+use Rattle.isosearch.specs.Stages.{Language, Means, Refused}
 
--- the byte at which a token starts, or the end of the text past the last of them
-abbrev pub start_of : List ℕ → List Token → ℕ → ℕ
-start_of bytes tokens k = option_map_or (λ token. token.span.start) (slice_get tokens k) (length bytes)
+-- the member that a value of a signature describes; the number is that of the signature's identifier
+abbrev pub member_of : List (List ℕ) → ℕ → ValDesc → Member
+member_of texts signature value =
+    record { kind = Val; path = text_of texts signature ++ codes "." ++ text_of texts value.id; scheme = scheme_of texts value.ty.ty }
 
--- each of the types is within the limits
-abbrev pub AreWithinLimits : List (List ℕ) → List TypeAt → Type 0
-AreWithinLimits texts [] = ⊤
-AreWithinLimits texts (t ∷ types) = IsWithinLimits (type_of texts t.ty) × AreWithinLimits texts types
+-- members before others, where nothing is refused among those
+abbrev pub before : List Member → Result (List Member) ℕ → Result (List Member) ℕ
+before members (Ok others) = Ok (members ++ others)
+before members (Err k) = Err k
 
--- the first of the types that is beyond the limits begins at this token
-pub data BeyondAt (texts : List (List ℕ)) : List TypeAt → ℕ → Type 0 where
-  beyond_here : {t : TypeAt} {types : List TypeAt} → (IsWithinLimits (type_of texts t.ty) → ⊥) → BeyondAt texts (t ∷ types) t.first
-  beyond_later : {t : TypeAt} {types : List TypeAt} {k : ℕ} → IsWithinLimits (type_of texts t.ty) → BeyondAt texts types k → BeyondAt texts (t ∷ types) k
+-- one identifier more is described
+abbrev pub described_also : (List ℕ → Bool) → List ℕ → List ℕ → Bool
+described_also is_described text other = bytes_eq other text || is_described other
 
--- the types of a file's values
-abbrev pub types_of : SourceFile → List TypeAt
-types_of file = map (λ value. value.ty) file.values
+-- the members that items describe, in order, where it is told which identifiers are described before; or the first token that is refused: that of a form that isn't built yet, an identifier that is described before, or where a type begins that isn't accepted
+abbrev pub described : List (List ℕ) → (List ℕ → Bool) → List Item → Result (List Member) ℕ
+described texts is_described [] = Ok []
+described texts is_described (Unbuilt k ∷ items) = Err k
+described texts is_described (Value signature value ∷ items) =
+    if is_described (text_of texts value.id) then Err value.id
+    else if is_accepted texts value.ty.ty then before (member_of texts signature value ∷ []) (described texts (described_also is_described (text_of texts value.id)) items)
+    else Err value.ty.first
 
--- the member that a value of the signature describes
-abbrev pub member_of : List (List ℕ) → SourceFile → ValDesc → Member
-member_of texts file value =
-    record { kind = Val; path = text_of texts file.id ++ codes "." ++ text_of texts value.id; scheme = scheme_of texts value.ty.ty }
+-- the members that a file describes, or the first token that is refused
+abbrev pub members_of : List (List ℕ) → SourceFile → Result (List Member) ℕ
+members_of texts file = described texts (λ text. false) (items_of file)
 
--- the members that a file describes, in order
-abbrev pub members_of : List (List ℕ) → SourceFile → List Member
-members_of texts file = map (member_of texts file) file.values
+-- a signature file describes members
+abbrev pub files : Language SourceFile (List Member)
+files = record { phrase = File; meaning = members_of }
 
 -- each member has a scheme, with its variables in order
 abbrev pub AreSchemes : List Member → Type 0
 AreSchemes [] = ⊤
 AreSchemes (member ∷ members) = IsScheme member.scheme × AreSchemes members
 
--- the text is a signature file whose types are within the limits, and these are its members
-pub record IsLibrary (bytes : List ℕ) (members : List Member) : Type 0 where
-  pub tokens : List Token
-  pub file : SourceFile
-  pub lexed : tokens_of bytes tokens
-  pub parsed : IsSourceFile bytes tokens file
-  pub within : AreWithinLimits (texts_of bytes tokens) (types_of file)
-  pub described : members ≡ members_of (texts_of bytes tokens) file
+-- the text is a signature file, and these are its members
+abbrev pub IsLibrary : List ℕ → List Member → Type 0
+IsLibrary bytes members = Means files bytes members
 
--- the text is refused at this byte: where no token begins that is read, else where its tokens stop being a file, else where the first type beyond the limits begins
-pub data FileRefusedAt (bytes : List ℕ) : ℕ → Type 0 where
-  at_byte : {place : ℕ} → NotBuiltAt bytes place → FileRefusedAt bytes place
-  at_token : (tokens : List Token) (k : ℕ) → tokens_of bytes tokens → FileStopsAt bytes tokens k → FileRefusedAt bytes (start_of bytes tokens k)
-  at_type : (tokens : List Token) {file : SourceFile} (k : ℕ) → tokens_of bytes tokens → IsSourceFile bytes tokens file → BeyondAt (texts_of bytes tokens) (types_of file) k
-      → FileRefusedAt bytes (start_of bytes tokens k)
+-- this is wrong with the text of a file, at this byte
+abbrev pub IsRefusedFile : List ℕ → Fault → ℕ → Type 0
+IsRefusedFile bytes fault place = Refused files bytes fault place

@@ -4,6 +4,8 @@ use Rattle.std.specs.Io.KnownBytes.{Appends}
 use Rattle.sig_base.specs.Faults.{Rose}
 use Rattle.sig_base.specs.Writing.{AppendsPart}
 use Rattle.sml_lexer.specs.Places.{line_at, column_at}
+use Rattle.isosearch.specs.declared.fault.Fault.{Fault}
+use Rattle.isosearch.specs.declared.fault.Fault.TheVariants as fault
 
 -- a line was added, or a part of it and the count of faults rose
 abbrev pub Says : Option (List ℕ) → Option (List ℕ) → ℕ → ℕ → List ℕ → Type 0
@@ -29,9 +31,14 @@ not_read_line file = file ++ codes ": cannot be read\n"
 abbrev pub too_long_line : List ℕ → List ℕ
 too_long_line file = file ++ codes ": longer than 4194304 bytes\n"
 
--- what is refused isn't read yet
-abbrev pub not_built : List ℕ
-not_built = codes "not built yet"
+-- what is said of a fault
+abbrev pub fault_text : Fault → List ℕ
+fault_text fault.BadByte = codes "unexpected byte"
+fault_text fault.OpenComment = codes "comment is not closed"
+fault_text fault.LongName = codes "name is longer than 255 bytes"
+fault_text fault.Syntax = codes "syntax error"
+fault_text fault.TooDeep = codes "nesting is too deep"
+fault_text fault.NotBuilt = codes "not built yet"
 
 -- the query is longer than a source may be
 abbrev pub too_large : List ℕ

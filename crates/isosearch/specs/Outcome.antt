@@ -6,9 +6,10 @@ use Rattle.sig_base.specs.Reading.{Holds, HoldsMore}
 use Rattle.type_core.specs.declared.member.Member.{Member}
 use Rattle.type_core.specs.declared.ty.Scheme.{Scheme}
 use Rattle.type_core.specs.InitialNames.{initial_names}
-use Rattle.isosearch.specs.Library.{IsLibrary, FileRefusedAt}
-use Rattle.isosearch.specs.Lines.{not_built, not_read_line, query_name, refusal_line, too_large, too_long_line}
-use Rattle.isosearch.specs.Query.{IsQuery, QueryRefusedAt}
+use Rattle.isosearch.specs.declared.fault.Fault.{Fault}
+use Rattle.isosearch.specs.Library.{IsLibrary, IsRefusedFile}
+use Rattle.isosearch.specs.Lines.{fault_text, not_read_line, query_name, refusal_line, too_large, too_long_line}
+use Rattle.isosearch.specs.Query.{IsQuery, IsRefusedQuery}
 use Rattle.isosearch.specs.Report.{Hits, report}
 use Rattle.isosearch.specs.Words.{Command}
 
@@ -49,11 +50,11 @@ pub record IsSearch (told : Option FileMap) (command : Command) (members : List 
 pub data Due (told : Option FileMap) (command : Command) : Outcome → Type 0 where
   no_file : IsMissing told command.file → Due told command (refused 5 (not_read_line command.file))
   long_file : HoldsMore told command.file source_limit → Due told command (refused 3 (too_long_line command.file))
-  bad_file : {bytes : List ℕ} {place : ℕ} → Holds told command.file bytes → length bytes ≤ source_limit → FileRefusedAt bytes place
-      → Due told command (refused 3 (refusal_line command.file bytes place not_built))
+  bad_file : {bytes : List ℕ} {fault : Fault} {place : ℕ} → Holds told command.file bytes → length bytes ≤ source_limit → IsRefusedFile bytes fault place
+      → Due told command (refused 3 (refusal_line command.file bytes place (fault_text fault)))
   long_query : {bytes : List ℕ} {members : List Member} → Holds told command.file bytes → length bytes ≤ source_limit → IsLibrary bytes members → source_limit < length command.query
       → Due told command (refused 4 (refusal_line query_name command.query 0 too_large))
-  bad_query : {bytes : List ℕ} {members : List Member} {place : ℕ} → Holds told command.file bytes → length bytes ≤ source_limit → IsLibrary bytes members → length command.query ≤ source_limit
-      → QueryRefusedAt command.query place → Due told command (refused 4 (refusal_line query_name command.query place not_built))
+  bad_query : {bytes : List ℕ} {members : List Member} {fault : Fault} {place : ℕ} → Holds told command.file bytes → length bytes ≤ source_limit → IsLibrary bytes members → length command.query ≤ source_limit
+      → IsRefusedQuery command.query fault place → Due told command (refused 4 (refusal_line query_name command.query place (fault_text fault)))
   found : {members hits : List Member} {scheme : Scheme} → IsSearch told command members scheme → Hits scheme members hits
       → Due told command (record { status = status_of hits; out = report initial_names hits; err = [] })

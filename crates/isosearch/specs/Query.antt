@@ -1,27 +1,25 @@
 -- The scheme that a query asks for, and where a query is refused.
-use Rattle.std.specs.Prelude.{◌≡◌, ℕ, List}
-use Rattle.sml_lexer.specs.declared.token.Token.{Token}
-use Rattle.sml_lexer.specs.Tokens.{tokens as tokens_of, NotBuiltAt}
+use Rattle.std.specs.Prelude.{ℕ, List, Result, Ok, Err, if◌then◌else◌}
 use Rattle.ty_parser.specs.declared.tree.TyExp.{TyExp}
-use Rattle.ty_parser.specs.Phrases.{Phrase, StopsAt}
-use Rattle.ty_parser.specs.Sorts.{sorts_of}
+use Rattle.ty_parser.specs.Phrases.{Phrase}
 use Rattle.type_core.specs.declared.ty.Scheme.{Scheme}
-use Rattle.isosearch.specs.Elaboration.{scheme_of, texts_of, type_of}
-use Rattle.isosearch.specs.Library.{start_of}
-use Rattle.isosearch.specs.Limits.{IsWithinLimits}
+use Rattle.isosearch.specs.declared.fault.Fault.{Fault}
+use Rattle.isosearch.specs.Elaboration.{scheme_of}
+use Rattle.isosearch.specs.Forms.{is_accepted}
+use Rattle.isosearch.specs.Stages.{Language, Means, Refused}
 
--- the text is a type within the limits, and this is its scheme
-pub record IsQuery (bytes : List ℕ) (scheme : Scheme) : Type 0 where
-  pub tokens : List Token
-  pub ty : TyExp
-  pub lexed : tokens_of bytes tokens
-  pub parsed : Phrase (sorts_of bytes tokens) ty
-  pub within : IsWithinLimits (type_of (texts_of bytes tokens) ty)
-  pub meant : scheme ≡ scheme_of (texts_of bytes tokens) ty
+-- the scheme of a type that is accepted; any other is refused at its first token
+abbrev pub asked : List (List ℕ) → TyExp → Result Scheme ℕ
+asked texts e = if is_accepted texts e then Ok (scheme_of texts e) else Err 0
 
--- the text is refused at this byte: where no token begins that is read, else where its tokens stop being a type, else, beyond the limits, where the first token begins
-pub data QueryRefusedAt (bytes : List ℕ) : ℕ → Type 0 where
-  at_byte : {place : ℕ} → NotBuiltAt bytes place → QueryRefusedAt bytes place
-  at_token : (tokens : List Token) (k : ℕ) → tokens_of bytes tokens → StopsAt Phrase (sorts_of bytes tokens) k → QueryRefusedAt bytes (start_of bytes tokens k)
-  at_type : (tokens : List Token) {ty : TyExp} → tokens_of bytes tokens → Phrase (sorts_of bytes tokens) ty → (IsWithinLimits (type_of (texts_of bytes tokens) ty) → ⊥)
-      → QueryRefusedAt bytes (start_of bytes tokens 0)
+-- a query is a type, and asks for its scheme
+abbrev pub queries : Language TyExp Scheme
+queries = record { phrase = Phrase; meaning = asked }
+
+-- the text is a query for this scheme
+abbrev pub IsQuery : List ℕ → Scheme → Type 0
+IsQuery bytes scheme = Means queries bytes scheme
+
+-- this is wrong with the text of a query, at this byte
+abbrev pub IsRefusedQuery : List ℕ → Fault → ℕ → Type 0
+IsRefusedQuery bytes fault place = Refused queries bytes fault place

@@ -1,17 +1,15 @@
 // From type expressions to schemes (the Definition of Standard ML, rules 44 to 49).
-ghost use Rattle.std.specs.Prelude.{◌≡◌, ◌↔◌, ℕ, List, [], ◌∷◌, map, min, max, IsTrue, IfOk};
+ghost use Rattle.std.specs.Prelude.{◌≡◌, ℕ, List, [], ◌∷◌, map, min, max, IsTrue, IfOk};
 ghost use Rattle.isosearch.specs.Elaboration as spec;
-ghost use Rattle.isosearch.specs.Elaboration.{texts_of, first_places, type_of, scheme_of};
+ghost use Rattle.isosearch.specs.Elaboration.{type_of, scheme_of};
 ghost use Rattle.isosearch.specs.Sources.{texts};
-ghost use Rattle.isosearch.specs.Limits.{IsWithinLimits};
+ghost use Rattle.isosearch.specs.Limits.{is_within_limits as limits};
 ghost use Rattle.isosearch.specs.Measures.{arrows_height, arrows_size, expression_height, expression_size};
-ghost use Rattle.sml_lexer.specs.Tokens.{tokens as tokens_of};
 ghost use Rattle.type_core.specs.Lists.{greatest_of, sum_of};
 ghost use Rattle.type_core.specs.Schemes.{IsScheme};
 
 use crate::source::Source;
 use sig_base::{Boxed, List, NoMemory};
-use sml_lexer::Token;
 use std::alloc::Global;
 use ty_parser::TyExp;
 use type_core::{NameId, Scheme, Ty, close};
@@ -26,7 +24,7 @@ const MAX_HEIGHT: u64 = 200;
 /// Whether the type that an expression stands for has at most 2,000 nodes and at most height 200. The
 /// type isn't built, since a text of arrows may stand for one a million nodes high.
 pub fn is_within_limits(e: &TyExp) -> bool
-    ensures value { (texts : List (List ℕ)) → IsTrue result ↔ IsWithinLimits (type_of texts e.now) }
+    ensures value { (texts : List (List ℕ)) → result ≡ limits (type_of texts e.now) }
 {
     size(e) <= MAX_SIZE && height(e) <= MAX_HEIGHT
 }
@@ -44,6 +42,7 @@ fn size(e: &TyExp) -> u64
 {
     match e {
         TyExp::Var(_) => 1,
+        TyExp::Fields(_) => 1,
         TyExp::Tuple(parts) => 1u64.saturating_add(total_size(parts.as_slice())),
         TyExp::Arrows(sides) => size_of_arrows(sides.as_slice()),
         TyExp::Apply(arguments, constructors) => {
@@ -88,6 +87,7 @@ fn height(e: &TyExp) -> u64
 {
     match e {
         TyExp::Var(_) => 1,
+        TyExp::Fields(_) => 1,
         TyExp::Tuple(parts) => 1u64.saturating_add(greatest_height(parts.as_slice())),
         TyExp::Arrows(sides) => height_of_arrows(sides.as_slice()),
         TyExp::Apply(arguments, constructors) => {
@@ -126,27 +126,13 @@ fn height_of_arrows(sides: &[TyExp]) -> u64
     total
 }
 
-/// The scheme that an expression stands for, for all values of its variables. The tokens are those that
-/// `lex` gave for the bytes, and `firsts` is what `first_places` gave for them.
-pub fn scheme(
-    alloc: Global,
-    bytes: &[u8],
-    tokens: &[Token],
-    firsts: &List<u32>,
-    e: &TyExp,
-) -> Result<Scheme, NoMemory>
-    requires tokens { tokens_of bytes.now tokens.now }
-    requires firsts { firsts.now ≡ first_places (texts_of bytes.now tokens.now) }
-    requires limits { IsWithinLimits (type_of (texts_of bytes.now tokens.now) e.now) }
-    ensures value { IfOk result (λ s. s ≡ scheme_of (texts_of bytes.now tokens.now) e.now) }
+/// The scheme that an expression stands for, for all values of its variables.
+pub fn scheme(alloc: Global, source: &Source<'_>, e: &TyExp) -> Result<Scheme, NoMemory>
+    requires limits { IsTrue (limits (type_of (texts source.now) e.now)) }
+    ensures value { IfOk result (λ s. s ≡ scheme_of (texts source.now) e.now) }
     ensures scheme { IfOk result IsScheme }
 {
-    let source = Source {
-        bytes,
-        tokens,
-        firsts: firsts.as_slice(),
-    };
-    let t = build(alloc, &source, e)?;
+    let t = build(alloc, source, e)?;
     close(alloc, &t)
 }
 
@@ -157,6 +143,7 @@ fn build(alloc: Global, source: &Source<'_>, e: &TyExp) -> Result<Ty, NoMemory>
 {
     match e {
         TyExp::Var(place) => Ok(Ty::Var(source.variable(*place))),
+        TyExp::Fields(_) => Ok(Ty::Tup(List::new(alloc))),
         TyExp::Tuple(parts) => {
             let parts = build_all(alloc, source, parts.as_slice())?;
             Ok(Ty::Tup(parts))

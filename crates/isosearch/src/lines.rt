@@ -1,9 +1,10 @@
 // The lines for standard error. None of them takes memory.
 ghost use Rattle.std.specs.Prelude.{◌++◌, map};
 ghost use Rattle.std.specs.List.{concat};
-ghost use Rattle.isosearch.specs.Lines.{Says, no_memory_line, not_built, not_read_line, not_written_line, query_name, refusal_at, too_large, too_long_line, usage_line};
+ghost use Rattle.isosearch.specs.Lines.{Says, fault_text, no_memory_line, not_read_line, not_written_line, query_name, refusal_at, too_large, too_long_line, usage_line};
 
 use crate::decimal::Decimal;
+use crate::fault::Fault;
 use sig_base::{Sink, write_all};
 use sml_lexer::LineCol;
 
@@ -86,18 +87,18 @@ fn refusal<E: Sink>(err: &mut E, name: &str, at: LineCol, text: &str)
     );
 }
 
-/// A file has what isn't read yet.
-pub fn file_not_built<E: Sink>(err: &mut E, file: &str, at: LineCol)
-    ensures { Says (E.written err.old) (E.written err.new) (E.faults err.old) (E.faults err.new) (refusal_at file.now at.line at.col not_built) }
+/// This is wrong with a file.
+pub fn bad_file<E: Sink>(err: &mut E, file: &str, fault: Fault, at: LineCol)
+    ensures { Says (E.written err.old) (E.written err.new) (E.faults err.old) (E.faults err.new) (refusal_at file.now at.line at.col (fault_text fault)) }
 {
-    refusal(err, file, at, "not built yet");
+    refusal(err, file, at, fault.text());
 }
 
-/// The query has what isn't read yet.
-pub fn query_not_built<E: Sink>(err: &mut E, at: LineCol)
-    ensures { Says (E.written err.old) (E.written err.new) (E.faults err.old) (E.faults err.new) (refusal_at query_name at.line at.col not_built) }
+/// This is wrong with the query.
+pub fn bad_query<E: Sink>(err: &mut E, fault: Fault, at: LineCol)
+    ensures { Says (E.written err.old) (E.written err.new) (E.faults err.old) (E.faults err.new) (refusal_at query_name at.line at.col (fault_text fault)) }
 {
-    refusal(err, "query", at, "not built yet");
+    refusal(err, "query", at, fault.text());
 }
 
 /// The query is longer than a source may be.

@@ -2,7 +2,10 @@
 #![tactic(auto)]
 
 mod decimal;
+mod describing;
 mod elaborate;
+mod fault;
+mod forms;
 mod laws;
 mod library;
 mod lines;
@@ -10,7 +13,7 @@ mod query;
 mod report;
 mod run;
 mod source;
-mod source_file;
+mod stages;
 #[cfg(test)]
 mod tests;
 mod texts;

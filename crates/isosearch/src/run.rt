@@ -11,7 +11,9 @@ ghost use Rattle.isosearch.specs.Refusals.{QueryFails, SearchFails};
 ghost use Rattle.isosearch.specs.Words.{command_of as the_command, given};
 ghost use Rattle.type_core.specs.Schemes.{IsScheme};
 
-use crate::library::{SourceRefusal, read_library};
+use crate::fault::{Fault, SourceRefusal};
+use crate::laws::one_outcome;
+use crate::library::read_library;
 use crate::lines;
 use crate::query::read_query;
 use crate::report::{Report, report_hits};
@@ -29,10 +31,10 @@ const MAX_SOURCE: u32 = 4_194_304;
 pub enum Refusal {
     ReadFault,
     TooLong,
-    /// The file is refused at a line and a column.
-    File(LineCol),
-    /// The query is refused at a line and a column.
-    Query(LineCol),
+    /// This is wrong with the file, at a line and a column.
+    File(Fault, LineCol),
+    /// This is wrong with the query, at a line and a column.
+    Query(Fault, LineCol),
     QueryTooLarge,
     NoMemory,
 }
@@ -61,8 +63,8 @@ fn answer(alloc: Global, members: &[Member], query: &str) -> Result<Report, Refu
             Ok(report) => Ok(report),
             Err(_) => Err(Refusal::NoMemory),
         },
-        Err(SourceRefusal::NotBuilt(place)) => {
-            Err(Refusal::Query(position(query.as_bytes(), place)))
+        Err(SourceRefusal::Refused(fault, place)) => {
+            Err(Refusal::Query(fault, position(query.as_bytes(), place)))
         }
         Err(SourceRefusal::NoMemory) => Err(Refusal::NoMemory),
     }
@@ -76,7 +78,9 @@ fn search_in(alloc: Global, bytes: &[u8], query: &str) -> Result<Report, Refusal
 {
     match read_library(alloc, bytes) {
         Ok(members) => answer(alloc, members.as_slice(), query),
-        Err(SourceRefusal::NotBuilt(place)) => Err(Refusal::File(position(bytes, place))),
+        Err(SourceRefusal::Refused(fault, place)) => {
+            Err(Refusal::File(fault, position(bytes, place)))
+        }
         Err(SourceRefusal::NoMemory) => Err(Refusal::NoMemory),
     }
 }
@@ -111,12 +115,12 @@ fn refuse<E: Sink>(err: &mut E, command: Command<'_>, refusal: Refusal) -> u8
             lines::too_long(err, command.file);
             3
         }
-        Refusal::File(at) => {
-            lines::file_not_built(err, command.file, at);
+        Refusal::File(fault, at) => {
+            lines::bad_file(err, command.file, fault, at);
             3
         }
-        Refusal::Query(at) => {
-            lines::query_not_built(err, at);
+        Refusal::Query(fault, at) => {
+            lines::bad_query(err, fault, at);
             4
         }
         Refusal::QueryTooLarge => {
@@ -186,6 +190,7 @@ pub fn run<F: Files, O: Sink, E: Sink>(
         lines::usage(err);
         return 2;
     };
+    one_outcome();
     match search(alloc, command, files) {
         Ok(report) => print(&report, out, err),
         Err(refusal) => refuse(err, command, refusal),

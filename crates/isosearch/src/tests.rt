@@ -196,6 +196,14 @@ fn finds_values(rt: HostRuntime) -> Result<(), Fail> {
             "val int.a : int\nval int.b : int\nval int.c : int\nval int.d : int\nval int.e : int\nval int.f : int\nval int.g : int\nval int.h : int\nval int.i : int\nval int.list : int\n10 found\n",
         ),
         ("signature S = sig end", "int", "0 found\n"),
+        // A file without declarations, comments, `;`, `and`, and values of any identifier.
+        ("", "int", "0 found\n"),
+        (" ; (* nothing (* at all *) *);", "int", "0 found\n"),
+        (
+            "(* *) signature S = sig val a : int and b : (* *) bool; val = : int val <= : int and * : int end;",
+            "(* (* *) *) int",
+            "val S.a : int\nval S.= : int\nval S.<= : int\nval S.* : int\n4 found\n",
+        ),
     ];
     for (text, query, out) in rows {
         let words = ["same", query, "F"];
@@ -208,53 +216,184 @@ fn finds_values(rt: HostRuntime) -> Result<(), Fail> {
     Ok(())
 }
 
+// A file S.sig with this query, the status, and the place and the text of the line.
 #[test]
 fn refuses_files_and_queries(rt: HostRuntime) -> Result<(), Fail> {
     let rows = [
-        ("signature S = sig type t end", "int", 3, "S.sig:1:19"),
-        (L, "int ->", 4, "query:1:7"),
-        // The file comes first.
-        ("signature S = sig type t end", "int ->", 3, "S.sig:1:19"),
-        ("", "int", 3, "S.sig:1:1"),
-        ("signature S = sig", "int", 3, "S.sig:1:18"),
-        ("signature S = sig end ;", "int", 3, "S.sig:1:23"),
+        // Each fault of tokens and of phrases.
         (
-            "signature S = sig end signature T = sig end",
+            "signature S = sig \u{e9} end",
             "int",
             3,
-            "S.sig:1:23",
-        ),
-        ("signature S = sig (* *) end", "int", 3, "S.sig:1:19"),
-        ("signature S = sig val = : int end", "int", 3, "S.sig:1:23"),
-        (
-            "signature S = sig val x : int val x : bool end",
-            "int",
-            3,
-            "S.sig:1:35",
+            "S.sig:1:19: unexpected byte",
         ),
         (
-            "signature S =\n sig val x :\n\tt end",
+            "signature S = sig val x : 0 end",
             "int",
             3,
-            "S.sig:3:2",
+            "S.sig:1:27: unexpected byte",
         ),
-        ("signature S = sig\r val x : t end", "int", 3, "S.sig:1:28"),
-        (L, "", 4, "query:1:1"),
-        (L, "t", 4, "query:1:1"),
-        (L, "list", 4, "query:1:1"),
-        (L, "int * -> int", 4, "query:1:7"),
-        (L, "int\nword", 4, "query:2:1"),
-        (L, "(int", 4, "query:1:5"),
-        (L, "int)", 4, "query:1:4"),
-        (L, "int (* *)", 4, "query:1:5"),
-        (L, "int \u{e9}", 4, "query:1:5"),
+        ("(* (* *)", "int", 3, "S.sig:1:1: comment is not closed"),
+        (
+            "signature S =\n\t(*",
+            "int",
+            3,
+            "S.sig:2:2: comment is not closed",
+        ),
+        ("signature S = sig", "int", 3, "S.sig:1:18: syntax error"),
+        (
+            "signature S : sig end",
+            "int",
+            3,
+            "S.sig:1:13: syntax error",
+        ),
+        (
+            "signature S = sig val x : int val end",
+            "int",
+            3,
+            "S.sig:1:35: syntax error",
+        ),
+        (
+            "signature S =\n sig val x :\n\tend",
+            "int",
+            3,
+            "S.sig:3:2: syntax error",
+        ),
+        (
+            "signature S = sig\r val x : -> end",
+            "int",
+            3,
+            "S.sig:1:28: syntax error",
+        ),
+        (
+            "structure S = sig end",
+            "int",
+            3,
+            "S.sig:1:13: syntax error",
+        ),
+        (L, "int \u{e9}", 4, "query:1:5: unexpected byte"),
+        (L, "int (*", 4, "query:1:5: comment is not closed"),
+        (L, "int ->", 4, "query:1:7: syntax error"),
+        (L, "", 4, "query:1:1: syntax error"),
+        (L, "(* *)", 4, "query:1:6: syntax error"),
+        (L, "int * -> int", 4, "query:1:7: syntax error"),
+        (L, "int\n-> )", 4, "query:2:4: syntax error"),
+        (L, "(int", 4, "query:1:5: syntax error"),
+        (L, "int)", 4, "query:1:4: syntax error"),
+        // The file comes before the query, and in each the tokens before the phrase before the forms.
+        (
+            "signature S = sig type t end",
+            "int ->",
+            3,
+            "S.sig:1:24: not built yet",
+        ),
+        (
+            "signature sig type t \u{e9}",
+            "int",
+            3,
+            "S.sig:1:22: unexpected byte",
+        ),
+        (
+            "signature S = sig type t val",
+            "int",
+            3,
+            "S.sig:1:29: syntax error",
+        ),
+        (L, "t -> \u{e9}", 4, "query:1:6: unexpected byte"),
+        (L, "t ->", 4, "query:1:5: syntax error"),
     ];
-    for (text, query, status, place) in rows {
+    for (text, query, status, line) in rows {
         let words = ["same", query, "S.sig"];
-        let err = format!(in rt.alloc(); "{place}: not built yet\n")?;
+        let err = format!(in rt.alloc(); "{line}\n")?;
         assert!(rt;
             ends(rt.alloc(), &words, sound("S.sig", text), status, "", &err)?,
             "{query} in {text}"
+        );
+    }
+    Ok(())
+}
+
+// The column of a form that isn't built yet, the first in the file.
+#[test]
+fn says_what_is_not_built(rt: HostRuntime) -> Result<(), Fail> {
+    let rows = [
+        // A binding, a specification and a repeated value at the identifier.
+        ("structure S : sig val x : t end", 11),
+        ("structure S :> T", 11),
+        ("signature S = sig val x : int end and T = sig end", 39),
+        ("signature S = sig end signature T = sig end", 33),
+        ("signature S = sig end; structure T : sig end", 34),
+        ("signature S = sig end and T = U signature V = W", 27),
+        ("signature S = sig type t end", 24),
+        ("signature S = sig type ('a, 'b) t = int and u end", 33),
+        ("signature S = sig eqtype 'a t end", 29),
+        ("signature S = sig datatype 'a t = A | B of int end", 31),
+        ("signature S = sig datatype t = datatype A.u end", 28),
+        ("signature S = sig exception E of int and F end", 29),
+        ("signature S = sig structure T : sig val x : t end end", 29),
+        ("signature S = sig val x : int and x : t end", 35),
+        ("signature S = sig val = : int ; val = : bool end", 37),
+        (
+            "signature S = sig val x : int val y : int val x : int end",
+            47,
+        ),
+        // `include` at its first signature expression, `sharing` at its first long identifier.
+        (
+            "signature S = sig include sig type t end where type t = int end",
+            27,
+        ),
+        ("signature S = sig include A B end", 27),
+        (
+            "signature S = sig val x : int sharing type A.t = B.t end",
+            44,
+        ),
+        ("signature S = sig sharing A = B.C end", 27),
+        // A signature expression and a type at the first token.
+        ("signature S = T", 15),
+        ("signature S = T where type t = int", 15),
+        ("signature S = sig type t end where type t = int", 15),
+        ("signature S = sig val x : {a : int} end", 27),
+        ("signature S = sig val x : {} end", 27),
+        ("signature S = sig val x : (int -> t) list end", 27),
+        ("signature S = sig val x : int val y : (t) end", 39),
+        ("signature S = sig val x : list end", 27),
+        ("signature S = sig val x : A.int end", 27),
+        ("signature S = sig val x : int int end", 27),
+        ("signature S = sig val x : int list option end", 27),
+        ("signature S = sig val x : (int, int) list end", 27),
+        ("signature S = sig val x : 'a * {a : int} list end", 27),
+        // The first in the file.
+        ("signature S = sig val x : t type t end", 27),
+        ("signature S = sig type t val x : t end", 24),
+        (
+            "signature S = sig val x : int and y : t and x : int end",
+            39,
+        ),
+        ("signature S = sig val x : t end and T = U", 27),
+    ];
+    for (text, column) in rows {
+        let err = format!(in rt.alloc(); "S.sig:1:{column}: not built yet\n")?;
+        let words = ["same", "int", "S.sig"];
+        assert!(rt;
+            ends(rt.alloc(), &words, sound("S.sig", text), 3, "", &err)?,
+            "{text}"
+        );
+    }
+    let queries = [
+        "t",
+        " list",
+        "int option",
+        "int -> {a : int}",
+        "(* *) int int",
+        "'a * A.t",
+    ];
+    let columns = [1, 2, 1, 1, 7, 1];
+    for (query, column) in queries.into_iter().zip(columns) {
+        let err = format!(in rt.alloc(); "query:1:{column}: not built yet\n")?;
+        let words = ["same", query, "L.sig"];
+        assert!(rt;
+            ends(rt.alloc(), &words, sound("L.sig", L), 4, "", &err)?,
+            "{query}"
         );
     }
     Ok(())
@@ -305,15 +444,21 @@ fn keeps_limits(rt: HostRuntime) -> Result<(), Fail> {
             "int end",
             "Z.sig:1:27: not built yet\n",
         ),
-        (value, "(", 200, " end", "Z.sig:1:228: not built yet\n"),
-        (value, "(", 201, " end", "Z.sig:1:227: not built yet\n"),
+        (value, "(", 199, " end", "Z.sig:1:227: syntax error\n"),
+        (
+            value,
+            "(",
+            200,
+            " end",
+            "Z.sig:1:226: nesting is too deep\n",
+        ),
         ("signature Z = sig val ", "x", 255, " : int end", ""),
         (
             "signature Z = sig val ",
             "x",
             256,
             " : int end",
-            "Z.sig:1:23: not built yet\n",
+            "Z.sig:1:23: name is longer than 255 bytes\n",
         ),
     ];
     for (before, part, times, after, err) in rows {
@@ -326,6 +471,35 @@ fn keeps_limits(rt: HostRuntime) -> Result<(), Fail> {
         };
         assert!(rt;
             ends(rt.alloc(), &words, sound("Z.sig", &text), status, out, err)?,
+            "{times} of {part}"
+        );
+    }
+    Ok(())
+}
+
+#[test]
+fn keeps_limits_of_queries(rt: HostRuntime) -> Result<(), Fail> {
+    let rows = [
+        ("word * ", 1998, "int", ""),
+        ("word * ", 1999, "int", "query:1:1: not built yet\n"),
+        ("word -> ", 199, "int", ""),
+        ("word -> ", 200, "int", "query:1:1: not built yet\n"),
+        ("(", 200, "", "query:1:201: syntax error\n"),
+        ("(", 201, "", "query:1:201: nesting is too deep\n"),
+        ("x", 256, "", "query:1:1: name is longer than 255 bytes\n"),
+        (" ", 4_194_301, "int", ""),
+        (" ", 4_194_302, "int", "query:1:1: query is too large\n"),
+    ];
+    for (part, times, after, err) in rows {
+        let query = repeated(rt.alloc(), "", part, times, after)?;
+        let words = ["same", query.as_str(), "L.sig"];
+        let (status, out) = if err.is_empty() {
+            (1, "0 found\n")
+        } else {
+            (4, "")
+        };
+        assert!(rt;
+            ends(rt.alloc(), &words, sound("L.sig", L), status, out, err)?,
             "{times} of {part}"
         );
     }
@@ -351,7 +525,7 @@ fn ends_where_calls_fail(rt: HostRuntime) -> Result<(), Fail> {
             "output: cannot be written\n",
         ),
         ("int", 0, 1, 6, "", "output: cannot be written\n"),
-        ("int ->", 0, 1, 4, "", "query:1:7: not built yet\n"),
+        ("int ->", 0, 1, 4, "", "query:1:7: syntax error\n"),
         ("-", 1, 1, 2, "", USAGE),
     ];
     for (query, read, out, status, written, line) in rows {

@@ -8,7 +8,7 @@ ghost use Rattle.sml_lexer.specs.Tokens.{tokens as tokens_of};
 
 use crate::source::Source;
 use sig_base::{List, NoMemory};
-use sml_lexer::Token;
+use sml_lexer::{Token, spans_inside, tokens_count};
 use std::alloc::Global;
 use std::collections::HashMap;
 use type_core::VarId;
@@ -24,9 +24,24 @@ pub fn text_of<'a>(bytes: &'a [u8], tokens: &[Token], place: usize) -> &'a [u8]
     }
 }
 
-impl Source<'_> {
+impl<'a> Source<'a> {
+    /// The text of these bytes. The tokens are those that `lex` gave for the bytes, and `firsts` is what
+    /// `first_places` gave for them.
+    pub fn new(bytes: &'a [u8], tokens: &'a [Token], firsts: &'a List<u32>) -> Self
+        requires tokens { tokens_of bytes.now tokens.now }
+        requires firsts { firsts.now ≡ first_places (texts_of bytes.now tokens.now) }
+        ensures { texts result ≡ texts_of bytes.now tokens.now }
+    {
+        spans_inside();
+        Source {
+            bytes,
+            tokens,
+            firsts: firsts.as_slice(),
+        }
+    }
+
     /// The text of the token with this number; nothing past the end.
-    pub fn text(&self, place: u32) -> &[u8]
+    pub fn text(&self, place: u32) -> &'a [u8]
         ensures value { result.now ≡ text_of (texts self.now) place }
     {
         text_of(self.bytes, self.tokens, place as usize)
@@ -73,6 +88,8 @@ pub fn first_places(alloc: Global, bytes: &[u8], tokens: &[Token]) -> Result<Lis
     requires tokens { tokens_of bytes.now tokens.now }
     ensures value { IfOk result (λ firsts. firsts ≡ first_places (texts_of bytes.now tokens.now)) }
 {
+    spans_inside();
+    tokens_count();
     let mut places: HashMap<&[u8], u32> = HashMap::new(alloc);
     let mut firsts = List::new(alloc);
     for at in 0..tokens.len() {

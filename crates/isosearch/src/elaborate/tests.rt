@@ -1,5 +1,6 @@
 // Texts of types with the texts of their schemes.
 use crate::elaborate::{is_within_limits, scheme};
+use crate::source::Source;
 use crate::variables::first_places;
 use sig_base::{NoMemory, Text};
 use sml_lexer::lex;
@@ -16,11 +17,12 @@ fn outcome(rt: &impl Abort, alloc: Global, text: &[u8]) -> Result<Text, Fail> {
     let Ok(parsed) = parse_type(alloc, text, tokens) else {
         return Ok(Text::from_slice(alloc, b"no type")?);
     };
+    let firsts = first_places(alloc, text, tokens)?;
+    let source = Source::new(text, tokens, &firsts);
     if !is_within_limits(&parsed.ty) {
         return Ok(Text::from_slice(alloc, b"beyond the limits")?);
     }
-    let firsts = first_places(alloc, text, tokens)?;
-    let scheme = scheme(alloc, text, tokens, &firsts, &parsed.ty)?;
+    let scheme = scheme(alloc, &source, &parsed.ty)?;
     let names = initial_names(alloc)?;
     Ok(print_scheme(alloc, &names, &scheme)?)
 }

@@ -1,8 +1,6 @@
-use Rattle.std.proofs.Common.{arith}
-use Rattle.isosearch.specs.Library.{at_byte}
+use Rattle.isosearch.specs.Library.{files}
+use Rattle.isosearch.proofs.Refusing.{no_tokens}
 use Rattle.isosearch.proofs.library.read_library.Goals as goal
 
-pub returns-in-NotBuilt-clause-refusal : goal.returns-in-NotBuilt-clause-refusal
-returns-in-NotBuilt-clause-refusal c =
-    let refused = rw c.in-NotBuilt.is at c.in-Err.ensures.refusal in
-    (at_byte refused, omega (arith, refused.within))
+pub returns-in-Err-clause-refusal : goal.returns-in-Err-clause-refusal
+returns-in-Err-clause-refusal c = no_tokens files _ _ _ c.in-Err.ensures.refusal c.from.ensures

@@ -1,15 +1,14 @@
 use Rattle.std.proofs.Common.{◌<◌, length, ◌∙◌, arith}
-use Rattle.sml_lexer.proofs.Laws.{tokens_count}
 use Rattle.isosearch.specs.Elaboration.{texts_of}
 use Rattle.isosearch.proofs.ElaborationPlaces.{places_more, met_more}
 use Rattle.isosearch.proofs.ElaborationTokens.{length-texts_of, tokens_within}
 use Rattle.isosearch.proofs.variables.first_places.Goals as goal
 
 pub text_of-text-requires : goal.text_of-text-requires
-text_of-text-requires c = record { within = tokens_within _ _ c.requires.tokens }
+text_of-text-requires c = record { within = tokens_within _ _ (c.spans_inside.ensures.law _ _ c.requires.tokens) }
 
 pub overflow_cast-at : goal.overflow_cast-at
-overflow_cast-at c = omega (arith, tokens_count _ _ c.requires.tokens, c.requires.size)
+overflow_cast-at c = omega (arith, c.tokens_count.ensures.law _ _ c.requires.tokens, c.requires.size)
 
 pub loop-at-preserved : goal.loop-at-preserved
 loop-at-preserved c =
