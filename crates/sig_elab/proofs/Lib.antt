@@ -1,0 +1,16 @@
+mod Held
+mod FirstPlaces
+mod Bodies
+mod Pushed
+mod ArrowChains
+mod Outcomes
+mod Records
+mod Constructed
+mod ManyFields
+mod TypedLevels
+mod LabelBytes
+mod Turns
+mod ParameterTexts
+mod TypeGroups
+mod Levels
+mod DatatypeGroups
