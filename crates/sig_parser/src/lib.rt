@@ -11,8 +11,6 @@ mod parse;
 mod point;
 mod sigs;
 mod stage;
-#[cfg(test)]
-mod tests;
 mod tree;
 
 pub use parse::{one_stop, one_tree, parse_file};
