@@ -28,20 +28,18 @@ use Rattle.sig_parser.specs.declared.tree.DataDesc.{DataDesc}
 use Rattle.sig_parser.specs.declared.tree.ConDesc.{ConDesc}
 use Rattle.sig_parser.specs.declared.point.Group.{Group}
 use Rattle.sig_parser.specs.declared.point.Group.TheVariants as group
-use Rattle.sig_parser.specs.declared.point.Goal.{Goal}
-use Rattle.sig_parser.specs.declared.point.Goal.TheVariants as goal
-use Rattle.sig_parser.specs.declared.point.Level.{Level}
-use Rattle.sig_parser.specs.declared.point.Open.{Open}
-use Rattle.sig_parser.specs.declared.point.Headed.{Headed}
-use Rattle.sig_parser.specs.declared.point.Headed.TheVariants as headed
-use Rattle.sig_parser.specs.declared.point.Cons.{Cons}
-use Rattle.sig_parser.specs.declared.point.Cons.TheVariants as cons
-use Rattle.sig_parser.specs.declared.point.Owner.{Owner}
-use Rattle.sig_parser.specs.declared.point.Owner.TheVariants as owner
+use Rattle.sig_parser.specs.Goals.{Goal, Level, Open}
+use Rattle.sig_parser.specs.Goals as goal
+use Rattle.sig_parser.specs.Heads.{Headed}
+use Rattle.sig_parser.specs.Heads as headed
+use Rattle.sig_parser.specs.Constructors.{Cons}
+use Rattle.sig_parser.specs.Constructors as cons
+use Rattle.sig_parser.specs.Owners.{Owner}
+use Rattle.sig_parser.specs.Owners as owner
 use Rattle.sig_parser.specs.declared.point.Shared.{Shared}
 use Rattle.sig_parser.specs.declared.point.Shared.TheVariants as shared
-use Rattle.sig_parser.specs.declared.point.Point.{Point}
-use Rattle.sig_parser.specs.declared.point.Point.TheVariants as point
+use Rattle.sig_parser.specs.Points.{Point}
+use Rattle.sig_parser.specs.Points as point
 use Rattle.ty_parser.proofs.Runs.{enumerate_from-append}
 use Rattle.ty_parser.proofs.Complete.{steps-run_within}
 use Rattle.ty_parser.proofs.Closing as type_closing
@@ -131,7 +129,7 @@ owned_completes : (n : ℕ) (decs : List TopDec) (ls : List Level) (o : Owner) (
 unfolding vals have_part have_sig types_
 owned_completes n decs ls (owner.Val ds i) t = settled (length ls) n (At decs ls (point.Vals (ds ++ value i t ∷ []))) (spec_settles decs ls _)
 owned_completes n decs ls (owner.Where o at vs i) t = settled (length ls) n (At decs ls (owned (owner.Where o at vs i) t)) (leave_settles decs ls o.goal _)
-owned_completes n decs ls (owner.Type ds vs i) t = settled (length ls) n (At decs ls (point.Types (ds ++ description vs i (Some t) ∷ []))) (spec_settles decs ls _)
+owned_completes n decs ls (owner.Abbrev ds vs i) t = settled (length ls) n (At decs ls (point.Types (ds ++ description vs i (Some t) ∷ []))) (spec_settles decs ls _)
 owned_completes n decs ls (owner.Con c cs i) t = cons_complete n decs ls c (cs ++ con i (Some t) ∷ [])
 
 -- types, and what wants one
@@ -163,21 +161,21 @@ equals_completes n decs ls ds vs i = goes_on n _ _ s.Alphanumeric refl (con_comp
 tycon_completes : (n : ℕ) (decs : List TopDec) (ls : List Level) (h : Headed) (vs : List ℕ) (i : ℕ) → Completes n (At decs ls (point.HaveTycon h vs i))
 unfolding where_tycon type_tycon types_ eqtypes datatype_tycon
 tycon_completes n decs ls (headed.Where o at) vs i = goes_on n _ _ (s.Reserved w.KwEquals) refl (want_type_completes (n + 1) decs ls (owner.Where o at vs i))
-tycon_completes n decs ls (headed.Type ds) vs i = settled (length ls) n (At decs ls (point.HaveTycon (headed.Type ds) vs i)) (spec_settles decs ls _)
+tycon_completes n decs ls (headed.Abbrev ds) vs i = settled (length ls) n (At decs ls (point.HaveTycon (headed.Abbrev ds) vs i)) (spec_settles decs ls _)
 tycon_completes n decs ls (headed.Eqtype ds) vs i = settled (length ls) n (At decs ls (point.HaveTycon (headed.Eqtype ds) vs i)) (spec_settles decs ls _)
 tycon_completes n decs ls (headed.Datatype ds) vs i = goes_on n _ _ (s.Reserved w.KwEquals) refl (equals_completes (n + 1) decs ls ds vs i)
 
 want_tycon_completes : (n : ℕ) (decs : List TopDec) (ls : List Level) (h : Headed) (vs : List ℕ) → Completes n (At decs ls (point.WantTycon h vs))
 unfolding want_tycon
 want_tycon_completes n decs ls (headed.Where o at) vs = goes_on n _ _ s.Alphanumeric refl (tycon_completes (n + 1) decs ls (headed.Where o at) vs n)
-want_tycon_completes n decs ls (headed.Type ds) vs = goes_on n _ _ s.Alphanumeric refl (tycon_completes (n + 1) decs ls (headed.Type ds) vs n)
+want_tycon_completes n decs ls (headed.Abbrev ds) vs = goes_on n _ _ s.Alphanumeric refl (tycon_completes (n + 1) decs ls (headed.Abbrev ds) vs n)
 want_tycon_completes n decs ls (headed.Eqtype ds) vs = goes_on n _ _ s.Alphanumeric refl (tycon_completes (n + 1) decs ls (headed.Eqtype ds) vs n)
 want_tycon_completes n decs ls (headed.Datatype ds) vs = goes_on n _ _ s.Alphanumeric refl (tycon_completes (n + 1) decs ls (headed.Datatype ds) vs n)
 
 params_complete : (n : ℕ) (decs : List TopDec) (ls : List Level) (h : Headed) → Completes n (At decs ls (point.WantParams h))
 unfolding want_params
 params_complete n decs ls (headed.Where o at) = goes_on n _ _ s.Alphanumeric refl (tycon_completes (n + 1) decs ls (headed.Where o at) [] n)
-params_complete n decs ls (headed.Type ds) = goes_on n _ _ s.Alphanumeric refl (tycon_completes (n + 1) decs ls (headed.Type ds) [] n)
+params_complete n decs ls (headed.Abbrev ds) = goes_on n _ _ s.Alphanumeric refl (tycon_completes (n + 1) decs ls (headed.Abbrev ds) [] n)
 params_complete n decs ls (headed.Eqtype ds) = goes_on n _ _ s.Alphanumeric refl (tycon_completes (n + 1) decs ls (headed.Eqtype ds) [] n)
 params_complete n decs ls (headed.Datatype ds) = goes_on n _ _ s.Alphanumeric refl (tycon_completes (n + 1) decs ls (headed.Datatype ds) [] n)
 

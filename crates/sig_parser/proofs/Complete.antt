@@ -27,20 +27,18 @@ use Rattle.sig_parser.specs.declared.tree.DataDesc.{DataDesc}
 use Rattle.sig_parser.specs.declared.tree.ConDesc.{ConDesc}
 use Rattle.sig_parser.specs.declared.point.Group.{Group}
 use Rattle.sig_parser.specs.declared.point.Group.TheVariants as group
-use Rattle.sig_parser.specs.declared.point.Goal.{Goal}
-use Rattle.sig_parser.specs.declared.point.Goal.TheVariants as goal
-use Rattle.sig_parser.specs.declared.point.Level.{Level}
-use Rattle.sig_parser.specs.declared.point.Open.{Open}
-use Rattle.sig_parser.specs.declared.point.Headed.{Headed}
-use Rattle.sig_parser.specs.declared.point.Headed.TheVariants as headed
-use Rattle.sig_parser.specs.declared.point.Cons.{Cons}
-use Rattle.sig_parser.specs.declared.point.Cons.TheVariants as cons
-use Rattle.sig_parser.specs.declared.point.Owner.{Owner}
-use Rattle.sig_parser.specs.declared.point.Owner.TheVariants as owner
+use Rattle.sig_parser.specs.Goals.{Goal, Level, Open}
+use Rattle.sig_parser.specs.Goals as goal
+use Rattle.sig_parser.specs.Heads.{Headed}
+use Rattle.sig_parser.specs.Heads as headed
+use Rattle.sig_parser.specs.Constructors.{Cons}
+use Rattle.sig_parser.specs.Constructors as cons
+use Rattle.sig_parser.specs.Owners.{Owner}
+use Rattle.sig_parser.specs.Owners as owner
 use Rattle.sig_parser.specs.declared.point.Shared.{Shared}
 use Rattle.sig_parser.specs.declared.point.Shared.TheVariants as shared
-use Rattle.sig_parser.specs.declared.point.Point.{Point}
-use Rattle.sig_parser.specs.declared.point.Point.TheVariants as point
+use Rattle.sig_parser.specs.Points.{Point}
+use Rattle.sig_parser.specs.Points as point
 use Rattle.sig_parser.specs.Grammar as grammar
 use Rattle.sig_parser.specs.Grammar.{Equated, equated, Value, Abbreviation, Constructor, DatDesc, Con, Sig, sigexp, Base, body, name, Specs, no_specs, more_specs, semicolon, Described, Bindings, one_binding, more_bindings, Binding, binding, Declared, signature, top_structure, TopDecs, no_decs, more_decs, top_semicolon}
 use Rattle.sig_parser.specs.Machine as machine
@@ -99,7 +97,7 @@ mutual
   spec_leads {r = r} decs l ls (grammar.val {ds = ds} d) f h =
       separated_leads w.KwAnd Value (λ ds. At decs (l ∷ ls) (point.WantVal ds)) (λ ds. At decs (l ∷ ls) (point.Vals ds)) (value_leads decs (l ∷ ls)) (λ ds i m f h. h) d f (vals_cover decs l ls ds r f h)
   spec_leads {r = r} decs l ls (grammar.types {ds = ds} d) f h =
-      separated_leads w.KwAnd Abbreviation (λ ds. At decs (l ∷ ls) (point.WantParams (headed.Type ds))) (λ ds. At decs (l ∷ ls) (point.Types ds)) (abbreviation_leads decs l ls) (λ ds i m f h. h) d f (types_cover decs l ls ds r f h)
+      separated_leads w.KwAnd Abbreviation (λ ds. At decs (l ∷ ls) (point.WantParams (headed.Abbrev ds))) (λ ds. At decs (l ∷ ls) (point.Types ds)) (abbreviation_leads decs l ls) (λ ds i m f h. h) d f (types_cover decs l ls ds r f h)
   spec_leads {r = r} decs l ls (grammar.eqtype {ds = ds} d) f h =
       separated_leads w.KwAnd Constructor (λ ds. At decs (l ∷ ls) (point.WantParams (headed.Eqtype ds))) (λ ds. At decs (l ∷ ls) (point.Eqtypes ds)) (constructor_leads decs l ls) (λ ds i m f h. h) d f (eqtypes_cover decs l ls ds r f h)
   spec_leads {r = r} decs l ls (grammar.datatype {ds = ds} d) f h =

@@ -27,20 +27,18 @@ use Rattle.sig_parser.specs.declared.tree.DataDesc.{DataDesc}
 use Rattle.sig_parser.specs.declared.tree.ConDesc.{ConDesc}
 use Rattle.sig_parser.specs.declared.point.Group.{Group}
 use Rattle.sig_parser.specs.declared.point.Group.TheVariants as group
-use Rattle.sig_parser.specs.declared.point.Goal.{Goal}
-use Rattle.sig_parser.specs.declared.point.Goal.TheVariants as goal
-use Rattle.sig_parser.specs.declared.point.Level.{Level}
-use Rattle.sig_parser.specs.declared.point.Open.{Open}
-use Rattle.sig_parser.specs.declared.point.Headed.{Headed}
-use Rattle.sig_parser.specs.declared.point.Headed.TheVariants as headed
-use Rattle.sig_parser.specs.declared.point.Cons.{Cons}
-use Rattle.sig_parser.specs.declared.point.Cons.TheVariants as cons
-use Rattle.sig_parser.specs.declared.point.Owner.{Owner}
-use Rattle.sig_parser.specs.declared.point.Owner.TheVariants as owner
+use Rattle.sig_parser.specs.Goals.{Goal, Level, Open}
+use Rattle.sig_parser.specs.Goals as goal
+use Rattle.sig_parser.specs.Heads.{Headed}
+use Rattle.sig_parser.specs.Heads as headed
+use Rattle.sig_parser.specs.Constructors.{Cons}
+use Rattle.sig_parser.specs.Constructors as cons
+use Rattle.sig_parser.specs.Owners.{Owner}
+use Rattle.sig_parser.specs.Owners as owner
 use Rattle.sig_parser.specs.declared.point.Shared.{Shared}
 use Rattle.sig_parser.specs.declared.point.Shared.TheVariants as shared
-use Rattle.sig_parser.specs.declared.point.Point.{Point}
-use Rattle.sig_parser.specs.declared.point.Point.TheVariants as point
+use Rattle.sig_parser.specs.Points.{Point}
+use Rattle.sig_parser.specs.Points as point
 use Rattle.sig_parser.specs.Machine.{State, At, bind, sig_of, open_name, description, datatype, con, shared_spec, with_spec, top_item, begin_spec, spec_item, item, behind_group, bound, want_id, leave, have_sig, two_names, have_name, after_where, have_part, next_binding, after_and, vals, types_, eqtypes, datatypes, type_tycon, replica, after_equals, want_con, constructors, exceptions, have_cons, have_con, includes, have_shared, step, ended, finish}
 use Rattle.sig_parser.proofs.Leads.{Covers, refused, have_sig_none}
 
@@ -117,7 +115,7 @@ module _ (decs : List TopDec) (l : Level) (ls : List Level) where
   include_covers first b ps (_ ∷ ts) f h = h
 
   -- descriptions that may go on
-  pub type_tycon_covers : (ds : List TypeDesc) (vs : List ℕ) (i : ℕ) → Covers (At decs (l ∷ ls) (point.HaveTycon (headed.Type ds) vs i)) (At decs (l ∷ ls) (point.Types (ds ++ description vs i None ∷ [])))
+  pub type_tycon_covers : (ds : List TypeDesc) (vs : List ℕ) (i : ℕ) → Covers (At decs (l ∷ ls) (point.HaveTycon (headed.Abbrev ds) vs i)) (At decs (l ∷ ls) (point.Types (ds ++ description vs i None ∷ [])))
   unfolding type_tycon types_ with_spec spec_item begin_spec
   type_tycon_covers ds vs i [] f h = h
   type_tycon_covers ds vs i ((j, s.Reserved w.KwEquals) ∷ ts) f h = cc

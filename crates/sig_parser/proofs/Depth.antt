@@ -27,21 +27,19 @@ use Rattle.sig_parser.specs.declared.tree.DataDesc.{DataDesc}
 use Rattle.sig_parser.specs.declared.tree.ConDesc.{ConDesc}
 use Rattle.sig_parser.specs.declared.point.Group.{Group}
 use Rattle.sig_parser.specs.declared.point.Group.TheVariants as group
-use Rattle.sig_parser.specs.declared.point.Goal.{Goal}
-use Rattle.sig_parser.specs.declared.point.Goal.TheVariants as goal
-use Rattle.sig_parser.specs.declared.point.Level.{Level}
-use Rattle.sig_parser.specs.declared.point.Open.{Open}
-use Rattle.sig_parser.specs.declared.point.Headed.{Headed}
-use Rattle.sig_parser.specs.declared.point.Headed.TheVariants as headed
-use Rattle.sig_parser.specs.declared.point.Cons.{Cons}
-use Rattle.sig_parser.specs.declared.point.Cons.TheVariants as cons
-use Rattle.sig_parser.specs.declared.point.Owner.{Owner}
-use Rattle.sig_parser.specs.declared.point.Owner.TheVariants as owner
+use Rattle.sig_parser.specs.Goals.{Goal, Level, Open}
+use Rattle.sig_parser.specs.Goals as goal
+use Rattle.sig_parser.specs.Heads.{Headed}
+use Rattle.sig_parser.specs.Heads as headed
+use Rattle.sig_parser.specs.Constructors.{Cons}
+use Rattle.sig_parser.specs.Constructors as cons
+use Rattle.sig_parser.specs.Owners.{Owner}
+use Rattle.sig_parser.specs.Owners as owner
 use Rattle.sig_parser.specs.declared.point.Shared.{Shared}
 use Rattle.sig_parser.specs.declared.point.Shared.TheVariants as shared
-use Rattle.sig_parser.specs.declared.point.Point.{Point}
-use Rattle.sig_parser.specs.declared.point.Point.TheVariants as point
-use Rattle.ty_parser.specs.declared.reader.Opened.{Opened}
+use Rattle.sig_parser.specs.Points.{Point}
+use Rattle.sig_parser.specs.Points as point
+use Rattle.ty_parser.specs.Machine.{Opened}
 use Rattle.ty_parser.specs.Phrases.{opens, closes}
 use Rattle.ty_parser.proofs.Types as type_depth
 use Rattle.sig_parser.specs.Grammar.{is_described_vid, name_of}
@@ -78,7 +76,7 @@ long_strid_level = level_name is_long_strid refl refl refl refl refl refl
 
 name_level : (h : Headed) (so : Sort) (n : ℕ) → IsTrue (is_name h so) → opens so + n ≡ closes so + n
 name_level (headed.Where o at) = long_tycon_level
-name_level (headed.Type ds) = level_name is_tycon refl refl refl refl refl refl
+name_level (headed.Abbrev ds) = level_name is_tycon refl refl refl refl refl refl
 name_level (headed.Eqtype ds) = level_name is_tycon refl refl refl refl refl refl
 name_level (headed.Datatype ds) = level_name is_tycon refl refl refl refl refl refl
 
@@ -212,8 +210,8 @@ tycon_depth : (decs : List TopDec) (ls : List Level) (h : Headed) (vs : List ℕ
 unfolding where_tycon type_tycon datatype_tycon open_at
 tycon_depth decs ls (headed.Where o at) vs i (s.Reserved w.KwEquals) = omega arith
 tycon_depth decs ls (headed.Where o at) vs i _ = tt
-tycon_depth decs ls (headed.Type ds) vs i (s.Reserved w.KwEquals) = omega arith
-tycon_depth decs ls (headed.Type ds) vs i so = types_depth decs ls _ so
+tycon_depth decs ls (headed.Abbrev ds) vs i (s.Reserved w.KwEquals) = omega arith
+tycon_depth decs ls (headed.Abbrev ds) vs i so = types_depth decs ls _ so
 tycon_depth decs ls (headed.Eqtype ds) vs i so = eqtypes_depth decs ls _ so
 tycon_depth decs ls (headed.Datatype ds) vs i (s.Reserved w.KwEquals) = omega arith
 tycon_depth decs ls (headed.Datatype ds) vs i _ = tt
@@ -304,7 +302,7 @@ owned_open : (o : Owner) (t : TypeAt) (n : ℕ) → open_at (owned o t) n ≡ n
 unfolding open_at
 owned_open (owner.Val ds i) t n = refl
 owned_open (owner.Where o at vs i) t n = refl
-owned_open (owner.Type ds vs i) t n = refl
+owned_open (owner.Abbrev ds vs i) t n = refl
 owned_open (owner.Con c cs i) t n = refl
 
 -- nor is one of a type that may end

@@ -27,20 +27,18 @@ use Rattle.sig_parser.specs.declared.tree.DataDesc.{DataDesc}
 use Rattle.sig_parser.specs.declared.tree.ConDesc.{ConDesc}
 use Rattle.sig_parser.specs.declared.point.Group.{Group}
 use Rattle.sig_parser.specs.declared.point.Group.TheVariants as group
-use Rattle.sig_parser.specs.declared.point.Goal.{Goal}
-use Rattle.sig_parser.specs.declared.point.Goal.TheVariants as goal
-use Rattle.sig_parser.specs.declared.point.Level.{Level}
-use Rattle.sig_parser.specs.declared.point.Open.{Open}
-use Rattle.sig_parser.specs.declared.point.Headed.{Headed}
-use Rattle.sig_parser.specs.declared.point.Headed.TheVariants as headed
-use Rattle.sig_parser.specs.declared.point.Cons.{Cons}
-use Rattle.sig_parser.specs.declared.point.Cons.TheVariants as cons
-use Rattle.sig_parser.specs.declared.point.Owner.{Owner}
-use Rattle.sig_parser.specs.declared.point.Owner.TheVariants as owner
+use Rattle.sig_parser.specs.Goals.{Goal, Level, Open}
+use Rattle.sig_parser.specs.Goals as goal
+use Rattle.sig_parser.specs.Heads.{Headed}
+use Rattle.sig_parser.specs.Heads as headed
+use Rattle.sig_parser.specs.Constructors.{Cons}
+use Rattle.sig_parser.specs.Constructors as cons
+use Rattle.sig_parser.specs.Owners.{Owner}
+use Rattle.sig_parser.specs.Owners as owner
 use Rattle.sig_parser.specs.declared.point.Shared.{Shared}
 use Rattle.sig_parser.specs.declared.point.Shared.TheVariants as shared
-use Rattle.sig_parser.specs.declared.point.Point.{Point}
-use Rattle.sig_parser.specs.declared.point.Point.TheVariants as point
+use Rattle.sig_parser.specs.Points.{Point}
+use Rattle.sig_parser.specs.Points as point
 use Rattle.sig_parser.specs.Grammar as grammar
 use Rattle.sig_parser.specs.Grammar.{is_described_vid, Separated, Named, TyVar, tyvar, TyVarSeq, no_variables, variable, variables, Value, Constructor, constructor, Abbreviation, without_type, with_type, Con, constant, carrying, DatDesc, datdesc, Part, part, Wheres, no_parts, parts, Parts, by_where, by_and, name_of, Names, two_names, more_names, Equated, equated}
 use Rattle.sig_parser.specs.Machine as machine
@@ -58,14 +56,14 @@ module _ (decs : List TopDec) (ls : List Level) where
   begins_variable : (h : Headed) (i : ℕ) → want_params decs ls h i s.Variable ≡ Some (At decs ls (point.WantTycon h (i ∷ [])))
   unfolding want_params begin_params
   begins_variable (headed.Where o at) i = refl
-  begins_variable (headed.Type ds) i = refl
+  begins_variable (headed.Abbrev ds) i = refl
   begins_variable (headed.Eqtype ds) i = refl
   begins_variable (headed.Datatype ds) i = refl
 
   begins_paren : (h : Headed) (i : ℕ) → want_params decs ls h i (s.Reserved w.KwLParen) ≡ Some (At decs ls (point.WantParam h []))
   unfolding want_params begin_params
   begins_paren (headed.Where o at) i = refl
-  begins_paren (headed.Type ds) i = refl
+  begins_paren (headed.Abbrev ds) i = refl
   begins_paren (headed.Eqtype ds) i = refl
   begins_paren (headed.Datatype ds) i = refl
 
@@ -120,10 +118,10 @@ module _ (decs : List TopDec) (l : Level) (ls : List Level) where
   at p = At decs (l ∷ ls) p
 
   -- tyvarseq tycon [= ty]
-  pub abbreviation_leads : (ds : List TypeDesc) (ts r : List Numbered) (d : TypeDesc) → Abbreviation ts r d → Leads (at (point.WantParams (headed.Type ds))) ts (at (point.Types (ds ++ d ∷ []))) r
+  pub abbreviation_leads : (ds : List TypeDesc) (ts r : List Numbered) (d : TypeDesc) → Abbreviation ts r d → Leads (at (point.WantParams (headed.Abbrev ds))) ts (at (point.Types (ds ++ d ∷ []))) r
   unfolding type_tycon
-  abbreviation_leads ds ts r d (without_type {i = i} {vs = vs} p named) f h = params_leads decs (l ∷ ls) (headed.Type ds) p named f (type_tycon_covers decs l ls ds vs i r f h)
-  abbreviation_leads ds ts r d (with_type {i = i} {vs = vs} p named t) f h = params_leads decs (l ∷ ls) (headed.Type ds) p named f (typed_leads decs (l ∷ ls) (owner.Type ds vs i) t f h)
+  abbreviation_leads ds ts r d (without_type {i = i} {vs = vs} p named) f h = params_leads decs (l ∷ ls) (headed.Abbrev ds) p named f (type_tycon_covers decs l ls ds vs i r f h)
+  abbreviation_leads ds ts r d (with_type {i = i} {vs = vs} p named t) f h = params_leads decs (l ∷ ls) (headed.Abbrev ds) p named f (typed_leads decs (l ∷ ls) (owner.Abbrev ds vs i) t f h)
 
   -- tyvarseq tycon
   pub constructor_leads : (ds : List TypeDesc) (ts r : List Numbered) (d : TypeDesc) → Constructor ts r d → Leads (at (point.WantParams (headed.Eqtype ds))) ts (at (point.Eqtypes (ds ++ d ∷ []))) r

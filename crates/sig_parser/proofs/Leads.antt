@@ -27,20 +27,18 @@ use Rattle.sig_parser.specs.declared.tree.DataDesc.{DataDesc}
 use Rattle.sig_parser.specs.declared.tree.ConDesc.{ConDesc}
 use Rattle.sig_parser.specs.declared.point.Group.{Group}
 use Rattle.sig_parser.specs.declared.point.Group.TheVariants as group
-use Rattle.sig_parser.specs.declared.point.Goal.{Goal}
-use Rattle.sig_parser.specs.declared.point.Goal.TheVariants as goal
-use Rattle.sig_parser.specs.declared.point.Level.{Level}
-use Rattle.sig_parser.specs.declared.point.Open.{Open}
-use Rattle.sig_parser.specs.declared.point.Headed.{Headed}
-use Rattle.sig_parser.specs.declared.point.Headed.TheVariants as headed
-use Rattle.sig_parser.specs.declared.point.Cons.{Cons}
-use Rattle.sig_parser.specs.declared.point.Cons.TheVariants as cons
-use Rattle.sig_parser.specs.declared.point.Owner.{Owner}
-use Rattle.sig_parser.specs.declared.point.Owner.TheVariants as owner
+use Rattle.sig_parser.specs.Goals.{Goal, Level, Open}
+use Rattle.sig_parser.specs.Goals as goal
+use Rattle.sig_parser.specs.Heads.{Headed}
+use Rattle.sig_parser.specs.Heads as headed
+use Rattle.sig_parser.specs.Constructors.{Cons}
+use Rattle.sig_parser.specs.Constructors as cons
+use Rattle.sig_parser.specs.Owners.{Owner}
+use Rattle.sig_parser.specs.Owners as owner
 use Rattle.sig_parser.specs.declared.point.Shared.{Shared}
 use Rattle.sig_parser.specs.declared.point.Shared.TheVariants as shared
-use Rattle.sig_parser.specs.declared.point.Point.{Point}
-use Rattle.sig_parser.specs.declared.point.Point.TheVariants as point
+use Rattle.sig_parser.specs.Points.{Point}
+use Rattle.sig_parser.specs.Points as point
 use Rattle.sig_parser.specs.Machine.{State, At, InType, sig_of, with_spec, top_item, begin_spec, spec_item, item, behind_group, bound, leave, have_sig, have_part, vals, types_, datatypes, constructors, exceptions, have_cons, step_at, owned, begin_type, behind_type, in_type, step, ended_type, finish}
 use Rattle.sig_parser.specs.Grammar.{Typed, typed, Separated, one, more}
 use Rattle.ty_parser.proofs.Complete as type_steps
@@ -146,7 +144,7 @@ cons_none decs ls cons.Exception cs so e = item_none decs _ so e
 owned_none : (decs : List TopDec) (ls : List Level) (o : Owner) (t : TypeAt) (i : ℕ) (so : Sort) → is_type_sort so ≡ true → step_at decs ls (owned o t) i so ≡ None
 owned_none decs ls (owner.Val ds j) t i so e = vals_none decs ls _ so e
 owned_none decs ls (owner.Where o at vs j) t i so e = have_part_none decs ls _ i so e
-owned_none decs ls (owner.Type ds vs j) t i so e = types_none decs ls _ so e
+owned_none decs ls (owner.Abbrev ds vs j) t i so e = types_none decs ls _ so e
 owned_none decs ls (owner.Con c cs j) t i so e = cons_none decs ls c _ so e
 
 module _ (decs : List TopDec) (ls : List Level) (o : Owner) (first : ℕ) where

@@ -8,4 +8,7 @@ pub mod Closing
 pub mod Depth
 pub mod Files
 pub mod Reading
+pub mod Bodies
+pub mod Depths
+pub mod Ends
 pub mod Counting

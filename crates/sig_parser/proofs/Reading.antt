@@ -1,5 +1,5 @@
 -- Reading a file: the invariant of the loop, and what each way on or out gives.
-use Rattle.std.proofs.Common.{◌≡◌, ℕ, ◌+◌, ◌<◌, ◌≤◌, List, [], length, get_or, reverse, Option, Some, None, Result, Ok, Err, refl, ap, sym, ◌∙◌, subst, arith, inl, inr}
+use Rattle.std.proofs.Common.{◌≡◌, ℕ, ◌+◌, ◌<◌, ◌≤◌, Bool, true, false, List, [], length, get_or, reverse, Option, Some, None, Result, Ok, Err, refl, ap, sym, ◌∙◌, subst, arith, inl, inr}
 use Rattle.std.specs.Prelude.{◌⊎◌, IfOk, IfErr}
 use Rattle.std.proofs.lemmas.List.{get_or-map, length-map}
 use Rattle.sml_lexer.specs.declared.token.Token.{Token}
@@ -14,12 +14,9 @@ use Rattle.ty_parser.proofs.Stops.{one_stop, one_depth, no_depth, deep_within}
 use Rattle.ty_parser.proofs.Viable.{ReadTo, opens_one, start_read, step_read, step_deep, step_stops, end_stops, end_found, one_tree}
 use Rattle.sig_parser.specs.declared.tree.SourceFile.{SourceFile}
 use Rattle.sig_parser.specs.Files.{File}
-use Rattle.sig_parser.specs.declared.point.Context.{Context}
-use Rattle.sig_parser.specs.declared.point.Reading.{Reading}
-use Rattle.sig_parser.specs.declared.point.Point.TheVariants as point
-use Rattle.sig_parser.specs.declared.point.Stage.TheVariants as stage
+use Rattle.ty_parser.specs.Machine.{taken}
 use Rattle.sig_parser.specs.Machine as machine
-use Rattle.sig_parser.specs.Machine.{State, At, at_stage, state_of, step, finish, depth}
+use Rattle.sig_parser.specs.Machine.{State, start, step, finish, depth}
 use Rattle.sig_parser.proofs.Depth.{step_depth}
 use Rattle.sig_parser.proofs.Files.{files}
 
@@ -27,8 +24,8 @@ use Rattle.sig_parser.proofs.Files.{files}
 pub record FileRead (bytes : List ℕ) (ts : List Token) (i : ℕ) (st : State) : Type 0 where
   pub read : ReadTo files 0 (sorts_of bytes ts) i st
 
-pub start_file : (bytes : List ℕ) (ts : List Token) (c : Context) → c.decs ≡ [] → c.levels ≡ [] → FileRead bytes ts 0 (state_of (record { context = c; stage = stage.At point.Items }))
-start_file bytes ts c none closed = record { read = start_read files 0 (sorts_of bytes ts) (at_stage c (stage.At point.Items)) (omega arith) (λ i. At (none i) (reverse (closed i)) point.Items) }
+pub start_file : (bytes : List ℕ) (ts : List Token) (st : State) → st ≡ start → FileRead bytes ts 0 st
+start_file bytes ts st e = record { read = start_read files 0 (sorts_of bytes ts) st (omega arith) e }
 
 -- the token at the place
 module _ (bytes : List ℕ) (ts : List Token) (i : ℕ) (st : State) (d : Token) (so : Sort) (to : FileRead bytes ts i st) (lt : i < length ts) (is : so ≡ sort_of bytes (get_or ts i d)) where
@@ -80,17 +77,16 @@ step_low st i so st' low e =
     let deepens = of_some (λ x. opens so + depth st ≡ closes so + depth x) _ st' (sym e) (step_depth st i so) in
     omega (arith, few, deepens, low)
 
--- what the test of the depth keeps of a step
-module _ (st : State) (i : ℕ) (so : Sort) (x : Reading) (e : Some (state_of x) ≡ step st (i, so)) where
-  pub shallow_next : (r : Result Reading ParseRefusal) → IfOk r (λ y. y ≡ x) → IfOk r (λ y. step st (i, so) ≡ Some (state_of y))
-  shallow_next (Ok y) same = sym e ∙ ap (λ y. Some (state_of y)) (sym same)
-  shallow_next (Err f) same = tt
+-- the token is refused where it cannot stand there, and where it is too deep
+module _ (st : State) (i : ℕ) (so : Sort) (st' : State) (can : Bool) (e : taken can st' ≡ step st (i, so)) where
+  pub step_none : can ≡ false → step st (i, so) ≡ None
+  step_none h = sym e ∙ ap (λ can. taken can st') h
 
-  pub shallow_refused : (r : Result Reading ParseRefusal) → IfErr r (λ f. (f ≡ refusal.TooDeep i) × (most_open < depth (state_of x))) → IfErr r (λ f. machine.Refuses st i so f)
-  shallow_refused (Ok y) h = tt
-  shallow_refused (Err f) h =
-      let P : ParseRefusal → Type 0 = λ f. machine.Refuses st i so f in
-      subst P (sym h.0) (refl, state_of x, sym e, h.1)
+  pub step_some : can ≡ true → Some st' ≡ step st (i, so)
+  step_some h = sym (ap (λ can. taken can st') h) ∙ e
+
+  pub step_too_deep : can ≡ true → most_open < depth st' → machine.Refuses st i so (refusal.TooDeep i)
+  step_too_deep h high = (refl, st', sym (step_some h), high)
 
 pub read_low : (bytes : List ℕ) (ts : List Token) (i : ℕ) (st : State) → FileRead bytes ts i st → depth st ≤ most_open
 read_low bytes ts i st to = let low = to.read.low in omega (arith, low)
@@ -106,16 +102,13 @@ module _ (bytes : List ℕ) (ts : List Token) (i : ℕ) (st : State) (d : Token)
       subst P (sym h.0) (file_deep bytes ts i st d so to lt is h.1 (sym h.2) h.3)
   refused_by refusal.NoMemory h = tt
 
-  pub file_refused : (r : Result Reading ParseRefusal) (e : ParseRefusal) → r ≡ Err e → IfErr r (λ e. machine.Refuses st i so e) → Refuses File (sorts_of bytes ts) e
-  file_refused r e same h =
-      let P : Result Reading ParseRefusal → Type 0 = λ r. IfErr r (λ e. machine.Refuses st i so e) in
-      refused_by e (subst P same h)
+  pub file_refused : (r : Result SourceFile ParseRefusal) (e f : ParseRefusal) → machine.Refuses st i so e → r ≡ Err f → f ≡ e → IfErr r (λ e. Refuses File (sorts_of bytes ts) e)
+  file_refused r e f h refused same =
+      let P : Result SourceFile ParseRefusal → Type 0 = λ r. IfErr r (λ e. Refuses File (sorts_of bytes ts) e) in
+      subst P (sym (refused ∙ ap Err same)) (refused_by e h)
 
-  pub file_next : (r : Result Reading ParseRefusal) (x : Reading) → r ≡ Ok x → IfOk r (λ x. step st (i, so) ≡ Some (state_of x)) → IfOk r (λ x. depth (state_of x) ≤ most_open) → FileRead bytes ts (i + 1) (state_of x)
-  file_next r x same h low =
-      let P : Result Reading ParseRefusal → Type 0 = λ r. IfOk r (λ x. step st (i, so) ≡ Some (state_of x)) in
-      let Q : Result Reading ParseRefusal → Type 0 = λ r. IfOk r (λ x. depth (state_of x) ≤ most_open) in
-      file_read bytes ts i st d so to lt is (state_of x) (sym (subst P same h)) (subst Q same low)
+  pub file_next : (st' : State) → step st (i, so) ≡ Some st' → depth st' ≤ most_open → FileRead bytes ts (i + 1) st'
+  file_next st' h low = file_read bytes ts i st d so to lt is st' (sym h) low
 
 -- what the end gives
 module _ (bytes : List ℕ) (ts : List Token) (i : ℕ) (st : State) (to : FileRead bytes ts i st) (e : i ≡ length ts) where

@@ -27,20 +27,18 @@ use Rattle.sig_parser.specs.declared.tree.DataDesc.{DataDesc}
 use Rattle.sig_parser.specs.declared.tree.ConDesc.{ConDesc}
 use Rattle.sig_parser.specs.declared.point.Group.{Group}
 use Rattle.sig_parser.specs.declared.point.Group.TheVariants as group
-use Rattle.sig_parser.specs.declared.point.Goal.{Goal}
-use Rattle.sig_parser.specs.declared.point.Goal.TheVariants as goal
-use Rattle.sig_parser.specs.declared.point.Level.{Level}
-use Rattle.sig_parser.specs.declared.point.Open.{Open}
-use Rattle.sig_parser.specs.declared.point.Headed.{Headed}
-use Rattle.sig_parser.specs.declared.point.Headed.TheVariants as headed
-use Rattle.sig_parser.specs.declared.point.Cons.{Cons}
-use Rattle.sig_parser.specs.declared.point.Cons.TheVariants as cons
-use Rattle.sig_parser.specs.declared.point.Owner.{Owner}
-use Rattle.sig_parser.specs.declared.point.Owner.TheVariants as owner
+use Rattle.sig_parser.specs.Goals.{Goal, Level, Open}
+use Rattle.sig_parser.specs.Goals as goal
+use Rattle.sig_parser.specs.Heads.{Headed}
+use Rattle.sig_parser.specs.Heads as headed
+use Rattle.sig_parser.specs.Constructors.{Cons}
+use Rattle.sig_parser.specs.Constructors as cons
+use Rattle.sig_parser.specs.Owners.{Owner}
+use Rattle.sig_parser.specs.Owners as owner
 use Rattle.sig_parser.specs.declared.point.Shared.{Shared}
 use Rattle.sig_parser.specs.declared.point.Shared.TheVariants as shared
-use Rattle.sig_parser.specs.declared.point.Point.{Point}
-use Rattle.sig_parser.specs.declared.point.Point.TheVariants as point
+use Rattle.sig_parser.specs.Points.{Point}
+use Rattle.sig_parser.specs.Points as point
 use Rattle.ty_parser.proofs.Runs.{if_some-and_then}
 use Rattle.ty_parser.proofs.Sound as type_sound
 use Rattle.sig_parser.specs.Grammar as grammar
@@ -230,7 +228,7 @@ unfolding where_tycon
 where_tycon_sound ts r i at j (s.Reserved w.KwEquals) decs ls o vs to = (to.0, i, to.1, to.2, to.3, to.4)
 where_tycon_sound ts r i at j _ decs ls o vs to = tt
 
-type_tycon_sound : (ts r : List Numbered) (i j : ℕ) (so : Sort) (decs : List TopDec) (ls : List Level) (ds : List TypeDesc) (vs : List ℕ) → PointTo ts ((i, so) ∷ r) decs ls (point.HaveTycon (headed.Type ds) vs j) → IfSome (type_tycon decs ls ds vs j so) (StateTo ts r)
+type_tycon_sound : (ts r : List Numbered) (i j : ℕ) (so : Sort) (decs : List TopDec) (ls : List Level) (ds : List TypeDesc) (vs : List ℕ) → PointTo ts ((i, so) ∷ r) decs ls (point.HaveTycon (headed.Abbrev ds) vs j) → IfSome (type_tycon decs ls ds vs j so) (StateTo ts r)
 unfolding type_tycon
 type_tycon_sound ts r i j (s.Reserved w.KwEquals) decs ls ds vs to = (to.0, i, to.1, to.2, to.3, to.4)
 type_tycon_sound ts r i j so decs ls ds vs to = types_sound ts r i so decs ls _ (has_more to.2 (grammar.without_type to.3 to.4))
@@ -242,7 +240,7 @@ datatype_tycon_sound ts r i j _ decs ls ds vs to = tt
 
 have_tycon_sound : (ts r : List Numbered) (i j : ℕ) (so : Sort) (decs : List TopDec) (ls : List Level) (h : Headed) (vs : List ℕ) → PointTo ts ((i, so) ∷ r) decs ls (point.HaveTycon h vs j) → IfSome (have_tycon decs ls h vs j so) (StateTo ts r)
 have_tycon_sound ts r i j so decs ls (headed.Where o at) vs to = where_tycon_sound ts r i at j so decs ls o vs to
-have_tycon_sound ts r i j so decs ls (headed.Type ds) vs to = type_tycon_sound ts r i j so decs ls ds vs to
+have_tycon_sound ts r i j so decs ls (headed.Abbrev ds) vs to = type_tycon_sound ts r i j so decs ls ds vs to
 have_tycon_sound ts r i j so decs ls (headed.Eqtype ds) vs to = eqtypes_sound ts r i so decs ls _ (has_more to.2 (grammar.constructor to.3 to.4))
 have_tycon_sound ts r i j so decs ls (headed.Datatype ds) vs to = datatype_tycon_sound ts r i j so decs ls ds vs to
 
@@ -379,7 +377,7 @@ owned_sound ts m r decs ls (owner.Val ds i) t to d = has_more to.2 (grammar.valu
 owned_sound ts m r decs ls (owner.Where o at vs i) t to d =
     let h = to.3 in
     (h.0, part_to decs ls o _ h.2, part_joined h.3 (part to.4 to.5 d))
-owned_sound ts m r decs ls (owner.Type ds vs i) t to d = has_more to.3 (grammar.with_type to.4 to.5 d)
+owned_sound ts m r decs ls (owner.Abbrev ds vs i) t to d = has_more to.3 (grammar.with_type to.4 to.5 d)
 owned_sound ts m r decs ls (owner.Con c cs i) t to d = (to.0, to.3, joined to.4 (grammar.carrying to.5 d))
 
 in_type_sound : (ts m r : List Numbered) (first i : ℕ) (fo so : Sort) (decs : List TopDec) (ls : List Level) (o : Owner) → OwnerTo ts ((first, fo) ∷ m) decs ls o → (st : Option types.State) (e : Option TyExp) → IfSome st (type_sound.StateTo ((first, fo) ∷ m) r) → IfSome e (Ty ((first, fo) ∷ m) ((i, so) ∷ r))

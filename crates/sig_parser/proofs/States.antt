@@ -27,20 +27,18 @@ use Rattle.sig_parser.specs.declared.tree.DataDesc.{DataDesc}
 use Rattle.sig_parser.specs.declared.tree.ConDesc.{ConDesc}
 use Rattle.sig_parser.specs.declared.point.Group.{Group}
 use Rattle.sig_parser.specs.declared.point.Group.TheVariants as group
-use Rattle.sig_parser.specs.declared.point.Goal.{Goal}
-use Rattle.sig_parser.specs.declared.point.Goal.TheVariants as goal
-use Rattle.sig_parser.specs.declared.point.Level.{Level}
-use Rattle.sig_parser.specs.declared.point.Open.{Open}
-use Rattle.sig_parser.specs.declared.point.Headed.{Headed}
-use Rattle.sig_parser.specs.declared.point.Headed.TheVariants as headed
-use Rattle.sig_parser.specs.declared.point.Cons.{Cons}
-use Rattle.sig_parser.specs.declared.point.Cons.TheVariants as cons
-use Rattle.sig_parser.specs.declared.point.Owner.{Owner}
-use Rattle.sig_parser.specs.declared.point.Owner.TheVariants as owner
+use Rattle.sig_parser.specs.Goals.{Goal, Level, Open}
+use Rattle.sig_parser.specs.Goals as goal
+use Rattle.sig_parser.specs.Heads.{Headed}
+use Rattle.sig_parser.specs.Heads as headed
+use Rattle.sig_parser.specs.Constructors.{Cons}
+use Rattle.sig_parser.specs.Constructors as cons
+use Rattle.sig_parser.specs.Owners.{Owner}
+use Rattle.sig_parser.specs.Owners as owner
 use Rattle.sig_parser.specs.declared.point.Shared.{Shared}
 use Rattle.sig_parser.specs.declared.point.Shared.TheVariants as shared
-use Rattle.sig_parser.specs.declared.point.Point.{Point}
-use Rattle.sig_parser.specs.declared.point.Point.TheVariants as point
+use Rattle.sig_parser.specs.Points.{Point}
+use Rattle.sig_parser.specs.Points as point
 use Rattle.ty_parser.proofs.Sound as type_sound
 use Rattle.sig_parser.specs.Grammar as grammar
 use Rattle.sig_parser.specs.Grammar.{is_described_vid, Separated, one, more, Named, TyVar, TyVarSeq, Value, Constructor, Abbreviation, Con, DatDesc, Part, Wheres, Parts, by_where, by_and, Names, Equated, Sig, sigexp, Base, Specs, more_specs, Described, Bindings, one_binding, more_bindings, Binding, TopDecs}
@@ -125,7 +123,7 @@ wants_more to = record { at = to.at; from = to.from; body_to = to.body_to; befor
 -- the same, to where parameters begin
 abbrev pub HeadedTo : List Numbered → List Numbered → List TopDec → List Level → Headed → Type 0
 HeadedTo ts r decs ls (headed.Where o at) = (m : List Numbered) × (b : ℕ) × OpenTo ts m decs ls o × PartBegun at m ((b, s.Reserved w.KwType) ∷ r) o.parts
-HeadedTo ts r decs ls (headed.Type ds) = Wants ts r decs ls w.KwType Abbreviation ds
+HeadedTo ts r decs ls (headed.Abbrev ds) = Wants ts r decs ls w.KwType Abbreviation ds
 HeadedTo ts r decs ls (headed.Eqtype ds) = Wants ts r decs ls w.KwEqtype Constructor ds
 HeadedTo ts r decs ls (headed.Datatype ds) = Wants ts r decs ls w.KwDatatype DatDesc ds
 
@@ -169,7 +167,7 @@ pub record SharedBefore (ts r : List Numbered) (decs : List TopDec) (ls : List L
 abbrev pub OwnerTo : List Numbered → List Numbered → List TopDec → List Level → Owner → Type 0
 OwnerTo ts r decs ls (owner.Val ds i) = (c : ℕ) × (so : Sort) × Wants ts ((i, so) ∷ (c, s.Reserved w.KwColon) ∷ r) decs ls w.KwVal Value ds × IsTrue (is_described_vid so)
 OwnerTo ts r decs ls (owner.Where o at vs i) = (m : List Numbered) × (e : ℕ) × (so : Sort) × HeadedTo ts m decs ls (headed.Where o at) × TyVarSeq m ((i, so) ∷ (e, s.Reserved w.KwEquals) ∷ r) vs × IsTrue (is_long_tycon so)
-OwnerTo ts r decs ls (owner.Type ds vs i) = (m : List Numbered) × (e : ℕ) × (so : Sort) × HeadedTo ts m decs ls (headed.Type ds) × TyVarSeq m ((i, so) ∷ (e, s.Reserved w.KwEquals) ∷ r) vs × IsTrue (is_tycon so)
+OwnerTo ts r decs ls (owner.Abbrev ds vs i) = (m : List Numbered) × (e : ℕ) × (so : Sort) × HeadedTo ts m decs ls (headed.Abbrev ds) × TyVarSeq m ((i, so) ∷ (e, s.Reserved w.KwEquals) ∷ r) vs × IsTrue (is_tycon so)
 OwnerTo ts r decs ls (owner.Con c cs i) = (m : List Numbered) × (o : ℕ) × (so : Sort) × ConsTo ts m decs ls c × Before (between_cons c) Con m ((i, so) ∷ (o, s.Reserved w.KwOf) ∷ r) cs × IsTrue (is_vid so)
 
 -- the same, to a point

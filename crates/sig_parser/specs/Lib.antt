@@ -1,3 +1,9 @@
 pub mod Grammar
 pub mod Files
+pub mod Goals
+pub mod Heads
+pub mod Constructors
+pub mod Owners
+pub mod Points
 pub mod Machine
+pub mod Views

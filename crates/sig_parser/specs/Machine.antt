@@ -1,5 +1,5 @@
 -- A reader of signature files that takes one token at a time, and settles nothing before the token that settles it.
-use Rattle.std.specs.Prelude.{◌≡◌, ◌<◌, ℕ, ◌+◌, Bool, true, false, List, [], ◌∷◌, ◌++◌, length, Option, Some, None, option_and_then, reverse, if◌then◌else◌}
+use Rattle.std.specs.Prelude.{◌≡◌, ◌<◌, ℕ, ◌+◌, Bool, true, false, List, [], ◌∷◌, ◌++◌, length, Option, Some, None, option_and_then, if◌then◌else◌}
 use Rattle.std.specs.Option.{option_map}
 use Rattle.sig_base.specs.declared.word.Word.TheVariants as w
 use Rattle.ty_parser.specs.declared.sort.Sort.{Sort}
@@ -28,41 +28,24 @@ use Rattle.sig_parser.specs.declared.tree.DataDesc.{DataDesc}
 use Rattle.sig_parser.specs.declared.tree.ConDesc.{ConDesc}
 use Rattle.sig_parser.specs.declared.point.Group.{Group}
 use Rattle.sig_parser.specs.declared.point.Group.TheVariants as group
-use Rattle.sig_parser.specs.declared.point.Goal.{Goal}
-use Rattle.sig_parser.specs.declared.point.Goal.TheVariants as goal
-use Rattle.sig_parser.specs.declared.point.Level.{Level}
-use Rattle.sig_parser.specs.declared.point.Open.{Open}
-use Rattle.sig_parser.specs.declared.point.Headed.{Headed}
-use Rattle.sig_parser.specs.declared.point.Headed.TheVariants as headed
-use Rattle.sig_parser.specs.declared.point.Cons.{Cons}
-use Rattle.sig_parser.specs.declared.point.Cons.TheVariants as cons
-use Rattle.sig_parser.specs.declared.point.Owner.{Owner}
-use Rattle.sig_parser.specs.declared.point.Owner.TheVariants as owner
+use Rattle.sig_parser.specs.Goals.{Goal, Level, Open}
+use Rattle.sig_parser.specs.Goals as goal
+use Rattle.sig_parser.specs.Heads.{Headed}
+use Rattle.sig_parser.specs.Heads as headed
+use Rattle.sig_parser.specs.Constructors.{Cons}
+use Rattle.sig_parser.specs.Constructors as cons
+use Rattle.sig_parser.specs.Owners.{Owner}
+use Rattle.sig_parser.specs.Owners as owner
 use Rattle.sig_parser.specs.declared.point.Shared.{Shared}
 use Rattle.sig_parser.specs.declared.point.Shared.TheVariants as shared
-use Rattle.sig_parser.specs.declared.point.Point.{Point}
-use Rattle.sig_parser.specs.declared.point.Point.TheVariants as point
-use Rattle.sig_parser.specs.declared.point.Stage.{Stage}
-use Rattle.sig_parser.specs.declared.point.Stage.TheVariants as stage
-use Rattle.sig_parser.specs.declared.point.Context.{Context}
-use Rattle.sig_parser.specs.declared.point.Reading.{Reading}
+use Rattle.sig_parser.specs.Points.{Point}
+use Rattle.sig_parser.specs.Points as point
 use Rattle.sig_parser.specs.Grammar.{is_described_vid, is_equals, is_colon, is_colon_or_seal, name_of}
 
 -- the top declarations so far, the bodies that are not ended, the innermost first, and where reading stands: at a point, or inside a type
 pub data State : Type 0 where
   At : List TopDec → List Level → Point → State
   InType : List TopDec → List Level → Owner → ℕ → types.State → State
-
--- the state that reading is in
-abbrev pub at_point : Context → Point → State
-at_point context p = At context.decs (reverse context.levels) p
-
-abbrev pub at_stage : Context → Stage → State
-at_stage context (stage.At p) = at_point context p
-at_stage context (stage.InType o first reader) = InType context.decs (reverse context.levels) o first (types.state_of reader)
-
-abbrev pub state_of : Reading → State
-state_of r = at_stage r.context r.stage
 
 -- the state before a file
 abbrev pub start : State
@@ -134,7 +117,7 @@ top_item decs _ = None
 -- the point after the first token of a specification
 unfoldable pub begin_spec : Sort → Option Point
 begin_spec (s.Reserved w.KwVal) = Some (point.WantVal [])
-begin_spec (s.Reserved w.KwType) = Some (point.WantParams (headed.Type []))
+begin_spec (s.Reserved w.KwType) = Some (point.WantParams (headed.Abbrev []))
 begin_spec (s.Reserved w.KwEqtype) = Some (point.WantParams (headed.Eqtype []))
 begin_spec (s.Reserved w.KwDatatype) = Some (point.WantParams (headed.Datatype []))
 begin_spec (s.Reserved w.KwException) = Some (point.WantCon cons.Exception [])
@@ -221,7 +204,7 @@ vals decs ls ds (s.Reserved w.KwAnd) = Some (At decs ls (point.WantVal ds))
 vals decs ls ds so = item decs (with_spec ls (spec.Val ds)) so
 
 unfoldable pub types_ : List TopDec → List Level → List TypeDesc → Sort → Option State
-types_ decs ls ds (s.Reserved w.KwAnd) = Some (At decs ls (point.WantParams (headed.Type ds)))
+types_ decs ls ds (s.Reserved w.KwAnd) = Some (At decs ls (point.WantParams (headed.Abbrev ds)))
 types_ decs ls ds so = item decs (with_spec ls (spec.Abbrev ds)) so
 
 unfoldable pub eqtypes : List TopDec → List Level → List TypeDesc → Sort → Option State
@@ -257,7 +240,7 @@ where_tycon decs ls o at vs i (s.Reserved w.KwEquals) = Some (At decs ls (point.
 where_tycon decs ls o at vs i _ = None
 
 unfoldable pub type_tycon : List TopDec → List Level → List TypeDesc → List ℕ → ℕ → Sort → Option State
-type_tycon decs ls ds vs i (s.Reserved w.KwEquals) = Some (At decs ls (point.WantType (owner.Type ds vs i)))
+type_tycon decs ls ds vs i (s.Reserved w.KwEquals) = Some (At decs ls (point.WantType (owner.Abbrev ds vs i)))
 type_tycon decs ls ds vs i so = types_ decs ls (ds ++ description vs i None ∷ []) so
 
 unfoldable pub datatype_tycon : List TopDec → List Level → List DataDesc → List ℕ → ℕ → Sort → Option State
@@ -266,7 +249,7 @@ datatype_tycon decs ls ds vs i _ = None
 
 abbrev pub have_tycon : List TopDec → List Level → Headed → List ℕ → ℕ → Sort → Option State
 have_tycon decs ls (headed.Where o at) vs i so = where_tycon decs ls o at vs i so
-have_tycon decs ls (headed.Type ds) vs i so = type_tycon decs ls ds vs i so
+have_tycon decs ls (headed.Abbrev ds) vs i so = type_tycon decs ls ds vs i so
 have_tycon decs ls (headed.Eqtype ds) vs i so = eqtypes decs ls (ds ++ description vs i None ∷ []) so
 have_tycon decs ls (headed.Datatype ds) vs i so = datatype_tycon decs ls ds vs i so
 
@@ -368,7 +351,7 @@ step_at decs ls (point.WantType o) i so = begin_type decs ls o i (types.step typ
 abbrev pub owned : Owner → TypeAt → Point
 owned (owner.Val ds i) t = point.Vals (ds ++ value i t ∷ [])
 owned (owner.Where o at vs i) t = point.HavePart (with_part o (record { at = at; params = vs; tycon = i; ty = t }))
-owned (owner.Type ds vs i) t = point.Types (ds ++ description vs i (Some t) ∷ [])
+owned (owner.Abbrev ds vs i) t = point.Types (ds ++ description vs i (Some t) ∷ [])
 owned (owner.Con c cs i) t = point.HaveCons c (cs ++ con i (Some t) ∷ [])
 
 -- behind a type that may end, or not

@@ -1,213 +1,237 @@
 // What stands between specifications and between top declarations, and what is done behind a whole one.
-ghost use Rattle.std.specs.Prelude.{◌≡◌, ℕ, List, [], ◌∷◌, IfOk, reverse};
+ghost use Rattle.std.specs.Prelude.{◌≡◌, List, [], ◌∷◌, IfOk, OnOk};
+ghost use Rattle.sig_parser.specs.Goals as goals;
 ghost use Rattle.std.specs.Option.{option_map};
+ghost use Rattle.ty_parser.specs.Machine.{last_of, before_last, taken};
+ghost use Rattle.ty_parser.specs.declared.sort.Sort.TheVariants.{Reserved};
+ghost use Rattle.sig_base.specs.declared.word.Word.TheVariants.{KwEnd};
 ghost use Rattle.sig_parser.specs.Machine as machine;
-ghost use Rattle.sig_parser.specs.Machine.{At, at_point};
-ghost use Rattle.sig_parser.specs.declared.point.Level.{Level};
-ghost use Rattle.sig_parser.specs.declared.tree.TopDec.{TopDec};
+ghost use Rattle.sig_parser.specs.Machine.{At};
+ghost use Rattle.sig_parser.specs.Views.{state_of, levels, levels_over, goal_of, before_goal};
 
-use crate::point::{Cons, Context, Goal, Group, Headed, Level, Open, Point};
-use crate::tree::{Bind, SigBase, SigExp, Spec, TopDec};
+use crate::point::{Base, Cons, Goal, Group, Headed, Level, Open, Point, Reading};
+use crate::tree::{Bind, SigExp, Spec, TopDec};
 use sig_base::{List, NoMemory, Word};
 use std::alloc::Global;
-use ty_parser::Sort;
+use ty_parser::{Reader as TypeReader, Sort, Stack, one_more};
 
 /// The list of one item.
 pub fn one<T: Drop>(alloc: Global, item: T) -> Result<List<T>, NoMemory>
     ensures value { IfOk result (λ all. all ≡ item ∷ []) }
 {
-    let mut all = List::new(alloc);
+    let mut all = Vec::with_capacity(alloc, 1)?;
     all.push(item)?;
-    Ok(all)
+    Ok(List::from_vec(all))
 }
 
-#[tactic(auto, unfolding(crate::specs::Machine::top_item))]
-fn top_item(alloc: Global, sort: Sort) -> Option<Point>
-    ensures { (decs : List TopDec) → option_map (At decs []) result ≡ machine.top_item decs sort }
-{
-    match sort {
-        Sort::Reserved(Word::KwSignature) => {
-            Some(Point::WantId(Group::Signatures, List::new(alloc)))
-        }
-        Sort::Reserved(Word::KwStructure) => {
-            Some(Point::WantId(Group::Structures, List::new(alloc)))
-        }
-        Sort::Reserved(Word::KwSemicolon) => Some(Point::Items),
-        _ => None,
-    }
-}
-
-#[tactic(auto, unfolding(crate::specs::Machine::begin_spec))]
-fn begin_spec(alloc: Global, sort: Sort) -> Option<Point>
-    ensures { result ≡ machine.begin_spec sort }
-{
-    match sort {
-        Sort::Reserved(Word::KwVal) => Some(Point::WantVal(List::new(alloc))),
-        Sort::Reserved(Word::KwType) => Some(Point::WantParams(Headed::Type(List::new(alloc)))),
-        Sort::Reserved(Word::KwEqtype) => {
-            Some(Point::WantParams(Headed::Eqtype(List::new(alloc))))
-        }
-        Sort::Reserved(Word::KwDatatype) => {
-            Some(Point::WantParams(Headed::Datatype(List::new(alloc))))
-        }
-        Sort::Reserved(Word::KwException) => {
-            Some(Point::WantCon(Cons::Exception, List::new(alloc)))
-        }
-        Sort::Reserved(Word::KwStructure) => Some(Point::WantId(Group::Members, List::new(alloc))),
-        Sort::Reserved(Word::KwInclude) => Some(Point::WantSig(Goal::Including)),
-        Sort::Reserved(Word::KwSharing) => Some(Point::AfterSharing),
-        Sort::Reserved(Word::KwSemicolon) => Some(Point::Items),
-        _ => None,
-    }
-}
-
-fn open_body(alloc: Global, level: Level) -> Open
-    ensures { result ≡ machine.open_body level }
-{
-    let Level { goal, first, specs } = level;
-    Open {
-        goal,
-        first,
-        base: SigBase::Body(specs),
-        parts: List::new(alloc),
-    }
-}
-
-impl Context {
+impl Reading {
     /// Nothing is read.
-    pub fn new(alloc: Global) -> Context
-        ensures decs { result.decs ≡ [] }
-        ensures levels { result.levels ≡ [] }
+    pub fn new(alloc: Global) -> Reading
+        ensures value { state_of result ≡ machine.start }
     {
-        Context {
+        Reading {
             decs: List::new(alloc),
-            levels: List::new(alloc),
+            levels: Stack::new(alloc),
+            specs: Stack::new(alloc),
+            bindings: Stack::new(alloc),
+            body: List::new(alloc),
+            parts: Stack::new(alloc),
+            params: Stack::new(alloc),
+            values: Stack::new(alloc),
+            types: Stack::new(alloc),
+            datatypes: Stack::new(alloc),
+            cons: Stack::new(alloc),
+            sigs: Stack::new(alloc),
+            names: Stack::new(alloc),
+            reader: TypeReader::new(alloc),
+            point: Point::Items,
         }
     }
 
-    /// Opens a body.
-    pub fn open(&mut self, level: Level) -> Result<(), NoMemory>
-        ensures decs { IfOk result (λ _. self.new.decs ≡ self.old.decs) }
-        ensures levels { IfOk result (λ _. reverse self.new.levels ≡ level ∷ reverse self.old.levels) }
+    #[tactic(auto, unfolding(crate::specs::Machine::top_item))]
+    fn top_item(&mut self, sort: Sort) -> bool
+        ensures { self.old.levels ≡ [] → taken result (state_of self.new) ≡ machine.top_item self.old.decs sort }
     {
-        self.levels.push(level)
+        match sort {
+            Sort::Reserved(Word::KwSignature) => {
+                self.point = Point::WantId(Group::Signatures, 0);
+                true
+            }
+            Sort::Reserved(Word::KwStructure) => {
+                self.point = Point::WantId(Group::Structures, 0);
+                true
+            }
+            Sort::Reserved(Word::KwSemicolon) => {
+                self.point = Point::Items;
+                true
+            }
+            _ => false,
+        }
+    }
+
+    #[tactic(auto, unfolding(crate::specs::Machine::begin_spec))]
+    fn begin_spec(&mut self, sort: Sort) -> bool
+        ensures { taken result (state_of self.new) ≡ option_map (At self.old.decs (levels self.old)) (machine.begin_spec sort) }
+    {
+        match sort {
+            Sort::Reserved(Word::KwVal) => {
+                self.values.clear();
+                self.point = Point::WantVal;
+                true
+            }
+            Sort::Reserved(Word::KwType) => {
+                self.types.clear();
+                self.point = Point::WantParams(Headed::Type);
+                true
+            }
+            Sort::Reserved(Word::KwEqtype) => {
+                self.types.clear();
+                self.point = Point::WantParams(Headed::Eqtype);
+                true
+            }
+            Sort::Reserved(Word::KwDatatype) => {
+                self.datatypes.clear();
+                self.point = Point::WantParams(Headed::Datatype);
+                true
+            }
+            Sort::Reserved(Word::KwException) => {
+                self.cons.clear();
+                self.point = Point::WantCon(Cons::Exception);
+                true
+            }
+            Sort::Reserved(Word::KwStructure) => {
+                self.point = Point::WantId(Group::Members, 0);
+                true
+            }
+            Sort::Reserved(Word::KwInclude) => {
+                self.point = Point::WantSig(Goal::Including);
+                true
+            }
+            Sort::Reserved(Word::KwSharing) => {
+                self.point = Point::AfterSharing;
+                true
+            }
+            Sort::Reserved(Word::KwSemicolon) => {
+                self.point = Point::Items;
+                true
+            }
+            _ => false,
+        }
+    }
+
+    // Ends the innermost body.
+    #[tactic(auto, unfolding(crate::specs::Machine::spec_item))]
+    fn end_body(&mut self) -> Result<bool, NoMemory>
+        ensures { IfOk result (λ can. taken can (state_of self.new)
+            ≡ machine.item self.old.decs (levels self.old) (Reserved KwEnd)) }
+    {
+        match self.levels.pop() {
+            None => Ok(false),
+            Some(level) => {
+                let Level { goal, first, specs } = level;
+                self.body = self.specs.take_last(specs)?;
+                self.parts.clear();
+                let base = Base::Body;
+                self.point = Point::HaveSig(Open { goal, first, base });
+                Ok(true)
+            }
+        }
     }
 
     /// Adds a specification to the innermost body.
-    #[tactic(auto, unfolding(crate::specs::Machine::with_spec))]
     pub fn with_spec(&mut self, spec: Spec) -> Result<(), NoMemory>
-        ensures decs { IfOk result (λ _. self.new.decs ≡ self.old.decs) }
-        ensures levels { IfOk result (λ _. reverse self.new.levels ≡ machine.with_spec (reverse self.old.levels) spec) }
+        ensures decs { OnOk result (self.new.decs ≡ self.old.decs) }
+        ensures levels { OnOk result (levels self.new ≡ machine.with_spec (levels self.old) spec) }
     {
         match self.levels.pop() {
             None => Ok(()),
-            Some(mut level) => {
-                level.specs.push(spec)?;
-                self.levels.push(level)
+            Some(level) => {
+                let Level { goal, first, specs } = level;
+                self.specs.push(spec)?;
+                let specs = one_more(specs)?;
+                self.levels.push(Level { goal, first, specs })?;
+                Ok(())
             }
         }
     }
 
     #[tactic(auto, unfolding(crate::specs::Machine::spec_item))]
-    fn spec_item(
-        &mut self,
-        alloc: Global,
-        level: Level,
-        sort: Sort,
-    ) -> Result<Option<Point>, NoMemory>
-        ensures { IfOk result (λ o. option_map (at_point self.new) o
-            ≡ machine.spec_item self.old.decs level (reverse self.old.levels) sort) }
+    fn inner_item(&mut self, sort: Sort) -> Result<bool, NoMemory>
+        ensures { IfOk result (λ can. (l : goals.Level) (ls : List goals.Level) → levels self.old ≡ l ∷ ls
+            → taken can (state_of self.new) ≡ machine.spec_item self.old.decs l ls sort) }
     {
         match sort {
-            Sort::Reserved(Word::KwEnd) => Ok(Some(Point::HaveSig(open_body(alloc, level)))),
-            _ => match begin_spec(alloc, sort) {
-                None => Ok(None),
-                Some(point) => {
-                    self.open(level)?;
-                    Ok(Some(point))
-                }
-            },
+            Sort::Reserved(Word::KwEnd) => self.end_body(),
+            _ => Ok(self.begin_spec(sort)),
         }
     }
 
-    /// The point after a token that stands between items, or ends the body around them.
-    pub fn item(&mut self, alloc: Global, sort: Sort) -> Result<Option<Point>, NoMemory>
-        ensures value { IfOk result (λ o. option_map (at_point self.new) o
-            ≡ machine.item self.old.decs (reverse self.old.levels) sort) }
+    /// Hands over a token that stands between items, or ends the body around them.
+    pub fn item(&mut self, sort: Sort) -> Result<bool, NoMemory>
+        ensures value { IfOk result (λ can. taken can (state_of self.new)
+            ≡ machine.item self.old.decs (levels self.old) sort) }
     {
-        match self.levels.pop() {
-            None => Ok(top_item(alloc, sort)),
-            Some(level) => self.spec_item(alloc, level, sort),
+        if self.levels.is_empty() {
+            Ok(self.top_item(sort))
+        } else {
+            self.inner_item(sort)
         }
     }
 
-    fn behind_group(
-        &mut self,
-        alloc: Global,
-        group: Group,
-        bindings: List<Bind>,
-        sort: Sort,
-    ) -> Result<Option<Point>, NoMemory>
-        ensures { IfOk result (λ o. option_map (at_point self.new) o
-            ≡ machine.behind_group self.old.decs (reverse self.old.levels) group bindings sort) }
+    fn behind_group(&mut self, group: Group, count: usize, sort: Sort) -> Result<bool, NoMemory>
+        ensures { IfOk result (λ can. taken can (state_of self.new)
+            ≡ machine.behind_group self.old.decs (levels_over self.old (before_last count self.old.bindings)) group (last_of count self.old.bindings) sort) }
     {
+        let bindings = self.bindings.take_last(count)?;
         match group {
             Group::Signatures => self.decs.push(TopDec::Signature(bindings))?,
             Group::Structures => self.decs.push(TopDec::Structure(bindings))?,
             Group::Members => self.with_spec(Spec::Structure(bindings))?,
         }
-        self.item(alloc, sort)
+        self.item(sort)
     }
 
-    /// The point after a token behind bindings.
+    /// Hands over a token behind bindings.
     #[tactic(auto, unfolding(crate::specs::Machine::bound))]
-    pub fn bound(
-        &mut self,
-        alloc: Global,
-        group: Group,
-        bindings: List<Bind>,
-        sort: Sort,
-    ) -> Result<Option<Point>, NoMemory>
-        ensures value { IfOk result (λ o. option_map (at_point self.new) o
-            ≡ machine.bound self.old.decs (reverse self.old.levels) group bindings sort) }
+    pub fn bound(&mut self, group: Group, count: usize, sort: Sort) -> Result<bool, NoMemory>
+        ensures value { IfOk result (λ can. taken can (state_of self.new)
+            ≡ machine.bound self.old.decs (levels_over self.old (before_last count self.old.bindings)) group (last_of count self.old.bindings) sort) }
     {
         match sort {
-            Sort::Reserved(Word::KwAnd) => Ok(Some(Point::WantId(group, bindings))),
-            _ => self.behind_group(alloc, group, bindings, sort),
+            Sort::Reserved(Word::KwAnd) => {
+                self.point = Point::WantId(group, count);
+                Ok(true)
+            }
+            _ => self.behind_group(group, count, sort),
         }
     }
 
-    /// The point after a token behind a signature expression that is whole.
+    /// Hands over a token behind a signature expression that is whole.
     pub fn leave(
         &mut self,
         alloc: Global,
         goal: Goal,
         sig: SigExp,
         sort: Sort,
-    ) -> Result<Option<Point>, NoMemory>
-        ensures value { IfOk result (λ o. option_map (at_point self.new) o
-            ≡ machine.leave self.old.decs (reverse self.old.levels) goal sig sort) }
+    ) -> Result<bool, NoMemory>
+        ensures value { IfOk result (λ can. taken can (state_of self.new)
+            ≡ machine.leave self.old.decs (levels_over self.old (before_goal goal self.old.bindings)) (goal_of goal self.old.bindings) sig sort) }
     {
         match goal {
-            Goal::Binding(group, mut bindings, id) => {
-                bindings.push(Bind { id, rhs: sig })?;
-                self.bound(alloc, group, bindings, sort)
+            Goal::Binding(group, count, id) => {
+                self.bindings.push(Bind { id, rhs: sig })?;
+                self.bound(group, one_more(count)?, sort)
             }
-            Goal::Including => self.behind_spec(alloc, Spec::Include(one(alloc, sig)?), sort),
+            Goal::Including => self.behind_spec(Spec::Include(one(alloc, sig)?), sort),
         }
     }
 
-    /// The point after a token behind a specification that is whole.
-    pub fn behind_spec(
-        &mut self,
-        alloc: Global,
-        spec: Spec,
-        sort: Sort,
-    ) -> Result<Option<Point>, NoMemory>
-        ensures value { IfOk result (λ o. option_map (at_point self.new) o
-            ≡ machine.item self.old.decs (machine.with_spec (reverse self.old.levels) spec) sort) }
+    /// Hands over a token behind a specification that is whole.
+    pub fn behind_spec(&mut self, spec: Spec, sort: Sort) -> Result<bool, NoMemory>
+        ensures value { IfOk result (λ can. taken can (state_of self.new)
+            ≡ machine.item self.old.decs (machine.with_spec (levels self.old) spec) sort) }
     {
         self.with_spec(spec)?;
-        self.item(alloc, sort)
+        self.item(sort)
     }
 }

@@ -11,6 +11,8 @@ mod parse;
 mod point;
 mod sigs;
 mod stage;
+#[cfg(test)]
+mod tests;
 mod tree;
 
 pub use parse::{one_stop, one_tree, parse_file};

@@ -1,5 +1,5 @@
 // The parser of signature files.
-ghost use Rattle.std.specs.Prelude.{◌≡◌, ◌<◌, ◌≤◌, ◌⊎◌, ℕ, ◌+◌, Some, Ok, Err, List, length, IfOk, IfErr};
+ghost use Rattle.std.specs.Prelude.{◌≡◌, ◌<◌, ◌≤◌, ◌⊎◌, ℕ, ◌+◌, Some, Ok, Err, List, length, IfOk, IfErr, OnOk};
 ghost use Rattle.sml_lexer.specs.Tokens.{tokens as tokens_of};
 ghost use Rattle.ty_parser.specs.Sorts.{sorts_of};
 ghost use Rattle.ty_parser.specs.Phrases.{IsShallow, Refuses, StopsAt, TooDeepAt, most_open};
@@ -7,11 +7,10 @@ ghost use Rattle.ty_parser.specs.declared.sort.Sort.{Sort};
 ghost use Rattle.ty_parser.specs.declared.tree.ParseRefusal.TheVariants.{Syntax, TooDeep, NoMemory};
 ghost use Rattle.sig_parser.specs.Files.{File};
 ghost use Rattle.sig_parser.specs.Machine as machine;
-ghost use Rattle.sig_parser.specs.Machine.{state_of};
+ghost use Rattle.sig_parser.specs.Views.{state_of};
 ghost use Rattle.sig_parser.specs.declared.tree.SourceFile.{SourceFile};
 
-use crate::point::{Context, Point, Reading, Stage};
-use crate::stage::finish;
+use crate::point::Reading;
 use crate::tree::SourceFile;
 use sml_lexer::Token;
 use std::alloc::Global;
@@ -52,59 +51,44 @@ fn read_file(alloc: Global, bytes: &[u8], tokens: &[Token]) -> Result<SourceFile
     ensures shallow { IfOk result (λ _. IsShallow File 0 (sorts_of bytes.now tokens.now) (length tokens.now)) }
     ensures refusal { IfErr result (λ refusal. Refuses File (sorts_of bytes.now tokens.now) refusal) }
 {
-    let mut reading = Reading {
-        context: Context::new(alloc),
-        stage: Stage::At(Point::Items),
-    };
+    let mut reading = Reading::new(alloc);
     let mut place: u32 = 0;
     'tokens: while (place as usize) < tokens.len() {
         let sort = sort_of(bytes, tokens[place as usize]);
-        match step(alloc, reading, place, sort) {
-            Err(refusal) => return Err(refusal),
-            Ok(further) => reading = further,
-        }
+        step(alloc, &mut reading, place, sort)?;
         place += 1;
     }
     ended(alloc, reading, place)
 }
 
-// The reading after a token with this number and sort.
-fn step(alloc: Global, reading: Reading, place: u32, sort: Sort) -> Result<Reading, ParseRefusal>
-    requires low { machine.depth (state_of reading) ≤ most_open }
-    ensures next { IfOk result (λ r. machine.step (state_of reading) (place, sort) ≡ Some (state_of r)) }
-    ensures low { IfOk result (λ r. machine.depth (state_of r) ≤ most_open) }
-    ensures refusal { IfErr result (λ e. machine.Refuses (state_of reading) place sort e) }
+// Hands over a token with this number and sort.
+fn step(alloc: Global, reading: &mut Reading, place: u32, sort: Sort) -> Result<(), ParseRefusal>
+    requires low { machine.depth (state_of reading.old) ≤ most_open }
+    ensures next { OnOk result (machine.step (state_of reading.old) (place, sort) ≡ Some (state_of reading.new)) }
+    ensures low { OnOk result (machine.depth (state_of reading.new) ≤ most_open) }
+    ensures refusal { IfErr result (λ e. machine.Refuses (state_of reading.old) place sort e) }
 {
-    match reading.next(alloc, place, sort)? {
-        None => Err(ParseRefusal::Syntax(place)),
-        Some(further) => shallow(further, place),
+    let can = reading.next(alloc, place, sort)?;
+    if !can {
+        return Err(ParseRefusal::Syntax(place));
     }
-}
-
-// The reading after this token, where not too many are open.
-fn shallow(reading: Reading, place: u32) -> Result<Reading, ParseRefusal>
-    requires low { machine.depth (state_of reading) ≤ most_open + 1 }
-    ensures same { IfOk result (λ r. r ≡ reading) }
-    ensures low { IfOk result (λ r. machine.depth (state_of r) ≤ most_open) }
-    ensures refusal { IfErr result (λ e. (e ≡ TooDeep place) × (most_open < machine.depth (state_of reading))) }
-{
-    if reading.context.depth(&reading.stage) > MOST_OPEN {
-        Err(ParseRefusal::TooDeep(place))
-    } else {
-        Ok(reading)
+    if reading.depth() > MOST_OPEN {
+        return Err(ParseRefusal::TooDeep(place));
     }
+    Ok(())
 }
 
 // What reading gives at the end of the tokens, where there are so many.
-fn ended(alloc: Global, reading: Reading, count: u32) -> Result<SourceFile, ParseRefusal>
+fn ended(alloc: Global, mut reading: Reading, count: u32) -> Result<SourceFile, ParseRefusal>
     ensures tree { IfOk result (λ f. machine.finish (state_of reading) ≡ Some f) }
     ensures refusal { IfErr result (λ e. machine.RefusesEnd (state_of reading) count e) }
 {
-    let Reading { context, stage } = reading;
-    match finish(alloc, context, stage)? {
-        None => Err(ParseRefusal::Syntax(count)),
-        Some(file) => Ok(file),
+    let can = reading.finish(alloc)?;
+    if !can {
+        return Err(ParseRefusal::Syntax(count));
     }
+    let Reading { decs, .. } = reading;
+    Ok(SourceFile { decs })
 }
 
 /// One list of tokens has at most one tree.

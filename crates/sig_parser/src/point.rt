@@ -1,9 +1,7 @@
 // How far the reading of a signature file has come.
-use crate::tree::{
-    Bind, ConDesc, DataDesc, SigBase, SigExp, Spec, TopDec, TypeDesc, ValDesc, WherePart,
-};
+use crate::tree::{Bind, ConDesc, DataDesc, SigExp, Spec, TopDec, TypeDesc, ValDesc, WherePart};
 use sig_base::List;
-use ty_parser::Reader as TypeReader;
+use ty_parser::{Reader as TypeReader, Stack};
 
 /// Where bindings stand.
 #[derive(Clone, Copy)]
@@ -17,60 +15,68 @@ pub enum Group {
 }
 
 /// What a signature expression is for.
-#[derive(Drop)]
+#[derive(Clone, Copy)]
 pub enum Goal {
-    /// A binding, with those before it and its identifier.
-    Binding(Group, List<Bind>, u32),
+    /// A binding, by how many stand before it and its identifier.
+    Binding(Group, usize, u32),
     /// An `include`.
     Including,
 }
 
-/// A body that isn't ended: what it is for, the number of its `sig`, and the specifications so far.
-#[derive(Drop)]
+/// A body that isn't ended: what it is for, the number of its `sig`, and how many specifications it has.
+#[derive(Clone, Copy)]
 pub struct Level {
     pub goal: Goal,
     pub first: u32,
-    pub specs: List<Spec>,
+    pub specs: usize,
+}
+
+/// What stands before `where`.
+#[derive(Clone, Copy)]
+pub enum Base {
+    /// The body that ended last.
+    Body,
+    /// The identifier of a signature.
+    Name(u32),
 }
 
 /// A signature expression that may go on by `where`.
-#[derive(Drop)]
+#[derive(Clone, Copy)]
 pub struct Open {
     pub goal: Goal,
     pub first: u32,
-    pub base: SigBase,
-    pub parts: List<WherePart>,
+    pub base: Base,
 }
 
-/// What parameters and the name of a type constructor are read for, with what was read before them.
-#[derive(Drop)]
+/// What parameters and the name of a type constructor are read for.
+#[derive(Clone, Copy)]
 pub enum Headed {
     /// A part of a `where`, by the number of its first token.
     Where(Open, u32),
-    Type(List<TypeDesc>),
-    Eqtype(List<TypeDesc>),
-    Datatype(List<DataDesc>),
+    Type,
+    Eqtype,
+    Datatype,
 }
 
 /// What constructors are read for.
-#[derive(Drop)]
+#[derive(Clone, Copy)]
 pub enum Cons {
-    /// A datatype: those before it, its parameters and its identifier.
-    Datatype(List<DataDesc>, List<u32>, u32),
+    /// A datatype, by its identifier.
+    Datatype(u32),
     Exception,
 }
 
 /// What a type is read for.
-#[derive(Drop)]
+#[derive(Clone, Copy)]
 pub enum Owner {
-    /// A value: those before it, and its identifier.
-    Val(List<ValDesc>, u32),
-    /// A part of a `where`: the number of its first token, its parameters and its type constructor.
-    Where(Open, u32, List<u32>, u32),
-    /// A type description: those before it, its parameters and its identifier.
-    Type(List<TypeDesc>, List<u32>, u32),
-    /// A constructor: those before it, and its identifier.
-    Con(Cons, List<ConDesc>, u32),
+    /// A value, by its identifier.
+    Val(u32),
+    /// A part of a `where`, by the number of its first token and its type constructor.
+    Where(Open, u32, u32),
+    /// A type description, by its identifier.
+    Type(u32),
+    /// A constructor, by its identifier.
+    Con(Cons, u32),
 }
 
 /// What `sharing` is said of.
@@ -80,17 +86,17 @@ pub enum Shared {
     Structures,
 }
 
-/// What the last token was, outside of types, with what was read in the same phrase.
-#[derive(Drop)]
+/// What the last token was, with the numbers that were read in the same phrase.
+#[derive(Clone, Copy)]
 pub enum Point {
     /// Among top declarations or specifications.
     Items,
     /// Before the identifier of a binding.
-    WantId(Group, List<Bind>),
+    WantId(Group, usize),
     /// After it.
-    HaveId(Group, List<Bind>, u32),
+    HaveId(Group, usize, u32),
     /// After a binding.
-    Bound(Group, List<Bind>),
+    Bound(Group, usize),
     /// Before a signature expression.
     WantSig(Goal),
     /// After an identifier that is one.
@@ -104,39 +110,39 @@ pub enum Point {
     /// After an `and` behind such a part.
     AfterAnd(Open, u32),
     /// Before the identifier of a value.
-    WantVal(List<ValDesc>),
+    WantVal,
     /// After it.
-    HaveVal(List<ValDesc>, u32),
+    HaveVal(u32),
     /// After values.
-    Vals(List<ValDesc>),
+    Vals,
     /// Before parameters.
     WantParams(Headed),
     /// Before a parameter in parentheses.
-    WantParam(Headed, List<u32>),
+    WantParam(Headed),
     /// After one.
-    HaveParam(Headed, List<u32>),
+    HaveParam(Headed),
     /// After parameters.
-    WantTycon(Headed, List<u32>),
+    WantTycon(Headed),
     /// After the type constructor.
-    HaveTycon(Headed, List<u32>, u32),
+    HaveTycon(Headed, u32),
     /// After type descriptions.
-    Types(List<TypeDesc>),
+    Types,
     /// After those of an `eqtype`.
-    Eqtypes(List<TypeDesc>),
+    Eqtypes,
     /// After the `=` of a datatype.
-    AfterEquals(List<DataDesc>, List<u32>, u32),
+    AfterEquals(u32),
     /// Before the type constructor that is replicated.
     WantReplica(u32),
     /// Before a constructor or an exception.
-    WantCon(Cons, List<ConDesc>),
+    WantCon(Cons),
     /// After its identifier.
-    HaveCon(Cons, List<ConDesc>, u32),
+    HaveCon(Cons, u32),
     /// After constructors or exceptions.
-    HaveCons(Cons, List<ConDesc>),
+    HaveCons(Cons),
     /// After datatypes.
-    Datatypes(List<DataDesc>),
+    Datatypes,
     /// After two or more identifiers of signatures.
-    Includes(List<SigExp>),
+    Includes,
     /// After `sharing`.
     AfterSharing,
     /// After `sharing type`.
@@ -144,32 +150,37 @@ pub enum Point {
     /// After the first that is shared.
     OneShared(Shared, u32),
     /// After `=`.
-    WantShared(Shared, List<u32>),
+    WantShared(Shared),
     /// After two or more that are shared.
-    HaveShared(Shared, List<u32>),
+    HaveShared(Shared),
     /// Before a type.
     WantType(Owner),
-}
-
-/// What is read outside of the innermost phrase: the top declarations so far, and the bodies that aren't
-/// ended, the outermost first.
-#[derive(Drop)]
-pub struct Context {
-    pub decs: List<TopDec>,
-    pub levels: List<Level>,
-}
-
-/// Where reading stands in the innermost phrase.
-#[derive(Drop)]
-pub enum Stage {
-    At(Point),
     /// Inside a type, by the number of its first token.
-    InType(Owner, u32, TypeReader),
+    InType(Owner, u32),
 }
 
-/// A file that isn't read to its end.
+/// A file that isn't read to its end: the point that reading has come to, and what was read and isn't part of a larger
+/// phrase yet.
 #[derive(Drop)]
 pub struct Reading {
-    pub context: Context,
-    pub stage: Stage,
+    pub decs: List<TopDec>,
+    /// The bodies that aren't ended, the outermost first.
+    pub levels: Stack<Level>,
+    /// The specifications of these bodies, and the bindings before them, those of the outermost first.
+    pub specs: Stack<Spec>,
+    pub bindings: Stack<Bind>,
+    /// The body that ended last, and the parts of the `where` behind it.
+    pub body: List<Spec>,
+    pub parts: Stack<WherePart>,
+    pub params: Stack<u32>,
+    pub values: Stack<ValDesc>,
+    pub types: Stack<TypeDesc>,
+    pub datatypes: Stack<DataDesc>,
+    pub cons: Stack<ConDesc>,
+    pub sigs: Stack<SigExp>,
+    /// What is shared.
+    pub names: Stack<u32>,
+    /// What was read of a type.
+    pub reader: TypeReader,
+    pub point: Point,
 }

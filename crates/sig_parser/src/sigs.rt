@@ -1,35 +1,22 @@
 // Bindings, signature expressions and their `where`.
-ghost use Rattle.std.specs.Prelude.{◌≡◌, ℕ, List, [], IfOk, reverse};
-ghost use Rattle.std.specs.Option.{option_map};
+ghost use Rattle.std.specs.Prelude.{◌≡◌, IfOk};
+ghost use Rattle.ty_parser.specs.Machine.{last_of, before_last, taken};
 ghost use Rattle.sig_parser.specs.Grammar as grammar;
 ghost use Rattle.sig_parser.specs.Machine as machine;
-ghost use Rattle.sig_parser.specs.Machine.{At, at_point};
-ghost use Rattle.sig_parser.specs.declared.point.Level.{Level};
-ghost use Rattle.sig_parser.specs.declared.tree.TopDec.{TopDec};
+ghost use Rattle.sig_parser.specs.Views.{state_of, levels, levels_over, goal_of, before_goal, open_of, sig_at};
 
-use crate::items::one;
-use crate::point::{Context, Goal, Group, Headed, Level, Open, Point};
-use crate::tree::{Bind, SigBase, SigExp, Spec};
+use crate::point::{Base, Goal, Group, Headed, Level, Open, Point, Reading};
+use crate::tree::{Bind, SigBase, SigExp, Spec, WherePart};
 use sig_base::{List, NoMemory, Word};
 use std::alloc::Global;
-use ty_parser::Sort;
+use std::mem;
+use ty_parser::{Sort, Stack, one_more};
 
 /// The signature with this identifier, as a signature expression.
 pub fn name_of(alloc: Global, id: u32) -> SigExp
     ensures value { result ≡ grammar.name_of id }
 {
     SigExp {
-        first: id,
-        base: SigBase::Name(id),
-        parts: List::new(alloc),
-    }
-}
-
-fn open_name(alloc: Global, goal: Goal, id: u32) -> Open
-    ensures { result ≡ machine.open_name goal id }
-{
-    Open {
-        goal,
         first: id,
         base: SigBase::Name(id),
         parts: List::new(alloc),
@@ -56,149 +43,158 @@ fn is_between(group: Group, sort: Sort) -> bool
     }
 }
 
-/// The point after a token before the identifier of a binding.
-#[tactic(auto, unfolding(crate::specs::Machine::want_id))]
-pub fn want_id(group: Group, bindings: List<Bind>, place: u32, sort: Sort) -> Option<Point>
-    ensures value { (decs : List TopDec) (ls : List Level)
-        → option_map (At decs ls) result ≡ machine.want_id decs ls group bindings place sort }
+// The whole signature expression: its body and its parts are taken off.
+pub fn closed(
+    alloc: Global,
+    begun: Open,
+    body: &mut List<Spec>,
+    parts: &mut Stack<WherePart>,
+) -> Result<SigExp, NoMemory>
+    ensures value { IfOk result (λ sig. sig ≡ sig_at begun body.old parts.old) }
 {
-    if sort.is_strid() {
-        Some(Point::HaveId(group, bindings, place))
-    } else {
-        None
-    }
+    let base = match begun.base {
+        Base::Body => SigBase::Body(mem::replace(body, List::new(alloc))),
+        Base::Name(id) => SigBase::Name(id),
+    };
+    Ok(SigExp {
+        first: begun.first,
+        base,
+        parts: parts.take_all()?,
+    })
 }
 
-/// The point after a token behind it.
-#[tactic(auto, unfolding(crate::specs::Machine::have_id))]
-pub fn have_id(group: Group, bindings: List<Bind>, id: u32, sort: Sort) -> Option<Point>
-    ensures value { (decs : List TopDec) (ls : List Level)
-        → option_map (At decs ls) result ≡ machine.have_id decs ls group bindings id sort }
-{
-    if is_between(group, sort) {
-        Some(Point::WantSig(Goal::Binding(group, bindings, id)))
-    } else {
-        None
-    }
-}
-
-/// The point after a token behind `where`, or behind the `and` of a part.
-#[tactic(auto, unfolding(crate::specs::Machine::after_where))]
-pub fn after_where(begun: Open, at: u32, sort: Sort) -> Option<Point>
-    ensures value { (decs : List TopDec) (ls : List Level)
-        → option_map (At decs ls) result ≡ machine.after_where decs ls begun at sort }
-{
-    match sort {
-        Sort::Reserved(Word::KwType) => Some(Point::WantParams(Headed::Where(begun, at))),
-        _ => None,
-    }
-}
-
-#[tactic(auto, unfolding(crate::specs::Machine::two_names))]
-fn two_names(alloc: Global, goal: Goal, one_id: u32, other: u32) -> Result<Option<Point>, NoMemory>
-    ensures { IfOk result (λ o. (decs : List TopDec) (ls : List Level)
-        → option_map (At decs ls) o ≡ machine.two_names decs ls goal one_id other) }
-{
-    match goal {
-        Goal::Binding(_, _, _) => Ok(None),
-        Goal::Including => {
-            let mut names = one(alloc, name_of(alloc, one_id))?;
-            names.push(name_of(alloc, other))?;
-            Ok(Some(Point::Includes(names)))
-        }
-    }
-}
-
-// An identifier behind `and` begins the next binding.
-#[tactic(auto, unfolding(crate::specs::Machine::next_binding))]
-fn next_binding(goal: Goal, sig: SigExp, place: u32) -> Result<Option<Point>, NoMemory>
-    ensures { IfOk result (λ o. (decs : List TopDec) (ls : List Level)
-        → option_map (At decs ls) o ≡ machine.next_binding decs ls goal sig place) }
-{
-    match goal {
-        Goal::Binding(group, mut bindings, id) => {
-            bindings.push(Bind { id, rhs: sig })?;
-            Ok(Some(Point::HaveId(group, bindings, place)))
-        }
-        Goal::Including => Ok(None),
-    }
-}
-
-/// The point after a token behind the `and` of a part.
-#[tactic(auto, unfolding(crate::specs::Machine::after_and))]
-pub fn after_and(begun: Open, at: u32, place: u32, sort: Sort) -> Result<Option<Point>, NoMemory>
-    ensures value { IfOk result (λ o. (decs : List TopDec) (ls : List Level)
-        → option_map (At decs ls) o ≡ machine.after_and decs ls begun at place sort) }
-{
-    if sort.is_strid() {
-        let (goal, sig) = begun.closed();
-        next_binding(goal, sig, place)
-    } else {
-        Ok(after_where(begun, at, sort))
-    }
-}
-
-impl Open {
-    /// The whole signature expression, and what it is for.
-    pub fn closed(self) -> (Goal, SigExp)
-        ensures goal { result.0 ≡ self.goal }
-        ensures sig { result.1 ≡ machine.sig_of self }
+impl Reading {
+    /// Hands over a token before the identifier of a binding.
+    #[tactic(auto, unfolding(crate::specs::Machine::want_id))]
+    pub fn want_id(&mut self, group: Group, count: usize, place: u32, sort: Sort) -> bool
+        ensures value { taken result (state_of self.new) ≡ machine.want_id self.old.decs (levels_over self.old (before_last count self.old.bindings)) group (last_of count self.old.bindings) place sort }
     {
-        let Open {
-            goal,
-            first,
-            base,
-            parts,
-        } = self;
-        (goal, SigExp { first, base, parts })
+        if sort.is_strid() {
+            self.point = Point::HaveId(group, count, place);
+            true
+        } else {
+            false
+        }
     }
-}
 
-impl Context {
-    #[tactic(auto, unfolding(crate::specs::Machine::begin_body))]
-    fn begin_body(
+    /// Hands over a token behind it.
+    #[tactic(auto, unfolding(crate::specs::Machine::have_id))]
+    pub fn have_id(&mut self, group: Group, count: usize, id: u32, sort: Sort) -> bool
+        ensures value { taken result (state_of self.new) ≡ machine.have_id self.old.decs (levels_over self.old (before_last count self.old.bindings)) group (last_of count self.old.bindings) id sort }
+    {
+        if is_between(group, sort) {
+            self.point = Point::WantSig(Goal::Binding(group, count, id));
+            true
+        } else {
+            false
+        }
+    }
+
+    /// Hands over a token behind `where`, or behind the `and` of a part.
+    #[tactic(auto, unfolding(crate::specs::Machine::after_where))]
+    pub fn after_where(&mut self, begun: Open, at: u32, sort: Sort) -> bool
+        ensures value { taken result (state_of self.new) ≡ machine.after_where self.old.decs (levels_over self.old (before_goal begun.goal self.old.bindings)) (open_of begun self.old) at sort }
+    {
+        match sort {
+            Sort::Reserved(Word::KwType) => {
+                self.point = Point::WantParams(Headed::Where(begun, at));
+                true
+            }
+            _ => false,
+        }
+    }
+
+    #[tactic(auto, unfolding(crate::specs::Machine::two_names))]
+    fn two_names(
         &mut self,
         alloc: Global,
         goal: Goal,
+        one_id: u32,
+        other: u32,
+    ) -> Result<bool, NoMemory>
+        ensures { IfOk result (λ can. taken can (state_of self.new)
+            ≡ machine.two_names self.old.decs (levels_over self.old (before_goal goal self.old.bindings)) (goal_of goal self.old.bindings) one_id other) }
+    {
+        match goal {
+            Goal::Binding(_, _, _) => Ok(false),
+            Goal::Including => {
+                self.sigs.clear();
+                self.sigs.push(name_of(alloc, one_id))?;
+                self.sigs.push(name_of(alloc, other))?;
+                self.point = Point::Includes;
+                Ok(true)
+            }
+        }
+    }
+
+    // An identifier behind `and` begins the next binding.
+    #[tactic(auto, unfolding(crate::specs::Machine::next_binding))]
+    fn next_binding(&mut self, goal: Goal, sig: SigExp, place: u32) -> Result<bool, NoMemory>
+        ensures { IfOk result (λ can. taken can (state_of self.new)
+            ≡ machine.next_binding self.old.decs (levels_over self.old (before_goal goal self.old.bindings)) (goal_of goal self.old.bindings) sig place) }
+    {
+        match goal {
+            Goal::Binding(group, count, id) => {
+                self.bindings.push(Bind { id, rhs: sig })?;
+                self.point = Point::HaveId(group, one_more(count)?, place);
+                Ok(true)
+            }
+            Goal::Including => Ok(false),
+        }
+    }
+
+    /// Hands over a token behind the `and` of a part.
+    #[tactic(auto, unfolding(crate::specs::Machine::after_and))]
+    pub fn after_and(
+        &mut self,
+        alloc: Global,
+        begun: Open,
+        at: u32,
         place: u32,
         sort: Sort,
-    ) -> Result<Option<Point>, NoMemory>
-        ensures { IfOk result (λ o. option_map (at_point self.new) o
-            ≡ machine.begin_body self.old.decs (reverse self.old.levels) goal place sort) }
+    ) -> Result<bool, NoMemory>
+        ensures value { IfOk result (λ can. taken can (state_of self.new)
+            ≡ machine.after_and self.old.decs (levels_over self.old (before_goal begun.goal self.old.bindings)) (open_of begun self.old) at place sort) }
+    {
+        if sort.is_strid() {
+            let sig = closed(alloc, begun, &mut self.body, &mut self.parts)?;
+            self.next_binding(begun.goal, sig, place)
+        } else {
+            Ok(self.after_where(begun, at, sort))
+        }
+    }
+
+    #[tactic(auto, unfolding(crate::specs::Machine::begin_body))]
+    fn begin_body(&mut self, goal: Goal, first: u32, sort: Sort) -> Result<bool, NoMemory>
+        ensures { IfOk result (λ can. taken can (state_of self.new)
+            ≡ machine.begin_body self.old.decs (levels_over self.old (before_goal goal self.old.bindings)) (goal_of goal self.old.bindings) first sort) }
     {
         match sort {
             Sort::Reserved(Word::KwSig) => {
-                self.open(Level {
-                    goal,
-                    first: place,
-                    specs: List::new(alloc),
-                })?;
-                Ok(Some(Point::Items))
+                let specs = 0;
+                self.levels.push(Level { goal, first, specs })?;
+                self.point = Point::Items;
+                Ok(true)
             }
-            _ => Ok(None),
+            _ => Ok(false),
         }
     }
 
-    /// The point after a token before a signature expression.
+    /// Hands over a token before a signature expression.
     #[tactic(auto, unfolding(crate::specs::Machine::want_sig))]
-    pub fn want_sig(
-        &mut self,
-        alloc: Global,
-        goal: Goal,
-        place: u32,
-        sort: Sort,
-    ) -> Result<Option<Point>, NoMemory>
-        ensures value { IfOk result (λ o. option_map (at_point self.new) o
-            ≡ machine.want_sig self.old.decs (reverse self.old.levels) goal place sort) }
+    pub fn want_sig(&mut self, goal: Goal, place: u32, sort: Sort) -> Result<bool, NoMemory>
+        ensures value { IfOk result (λ can. taken can (state_of self.new)
+            ≡ machine.want_sig self.old.decs (levels_over self.old (before_goal goal self.old.bindings)) (goal_of goal self.old.bindings) place sort) }
     {
         if sort.is_strid() {
-            Ok(Some(Point::HaveName(goal, place)))
+            self.point = Point::HaveName(goal, place);
+            Ok(true)
         } else {
-            self.begin_body(alloc, goal, place, sort)
+            self.begin_body(goal, place, sort)
         }
     }
 
-    /// The point after a token behind a signature expression.
+    /// Hands over a token behind a signature expression.
     #[tactic(auto, unfolding(crate::specs::Machine::have_sig))]
     pub fn have_sig(
         &mut self,
@@ -206,20 +202,23 @@ impl Context {
         begun: Open,
         place: u32,
         sort: Sort,
-    ) -> Result<Option<Point>, NoMemory>
-        ensures value { IfOk result (λ o. option_map (at_point self.new) o
-            ≡ machine.have_sig self.old.decs (reverse self.old.levels) begun place sort) }
+    ) -> Result<bool, NoMemory>
+        ensures value { IfOk result (λ can. taken can (state_of self.new)
+            ≡ machine.have_sig self.old.decs (levels_over self.old (before_goal begun.goal self.old.bindings)) (open_of begun self.old) place sort) }
     {
         match sort {
-            Sort::Reserved(Word::KwWhere) => Ok(Some(Point::AfterWhere(begun, place))),
+            Sort::Reserved(Word::KwWhere) => {
+                self.point = Point::AfterWhere(begun, place);
+                Ok(true)
+            }
             _ => {
-                let (goal, sig) = begun.closed();
-                self.leave(alloc, goal, sig, sort)
+                let sig = closed(alloc, begun, &mut self.body, &mut self.parts)?;
+                self.leave(alloc, begun.goal, sig, sort)
             }
         }
     }
 
-    /// The point after a token behind an identifier that is a signature expression.
+    /// Hands over a token behind an identifier that is a signature expression.
     #[tactic(auto, unfolding(crate::specs::Machine::have_name))]
     pub fn have_name(
         &mut self,
@@ -228,18 +227,24 @@ impl Context {
         id: u32,
         place: u32,
         sort: Sort,
-    ) -> Result<Option<Point>, NoMemory>
-        ensures value { IfOk result (λ o. option_map (at_point self.new) o
-            ≡ machine.have_name self.old.decs (reverse self.old.levels) goal id place sort) }
+    ) -> Result<bool, NoMemory>
+        ensures value { IfOk result (λ can. taken can (state_of self.new)
+            ≡ machine.have_name self.old.decs (levels_over self.old (before_goal goal self.old.bindings)) (goal_of goal self.old.bindings) id place sort) }
     {
         if sort.is_strid() {
-            two_names(alloc, goal, id, place)
+            self.two_names(alloc, goal, id, place)
         } else {
-            self.have_sig(alloc, open_name(alloc, goal, id), place, sort)
+            self.parts.clear();
+            let begun = Open {
+                goal,
+                first: id,
+                base: Base::Name(id),
+            };
+            self.have_sig(alloc, begun, place, sort)
         }
     }
 
-    /// The point after a token behind a part of a `where`.
+    /// Hands over a token behind a part of a `where`.
     #[tactic(auto, unfolding(crate::specs::Machine::have_part))]
     pub fn have_part(
         &mut self,
@@ -247,33 +252,32 @@ impl Context {
         begun: Open,
         place: u32,
         sort: Sort,
-    ) -> Result<Option<Point>, NoMemory>
-        ensures value { IfOk result (λ o. option_map (at_point self.new) o
-            ≡ machine.have_part self.old.decs (reverse self.old.levels) begun place sort) }
+    ) -> Result<bool, NoMemory>
+        ensures value { IfOk result (λ can. taken can (state_of self.new)
+            ≡ machine.have_part self.old.decs (levels_over self.old (before_goal begun.goal self.old.bindings)) (open_of begun self.old) place sort) }
     {
         match sort {
-            Sort::Reserved(Word::KwAnd) => Ok(Some(Point::AfterAnd(begun, place))),
+            Sort::Reserved(Word::KwAnd) => {
+                self.point = Point::AfterAnd(begun, place);
+                Ok(true)
+            }
             _ => self.have_sig(alloc, begun, place, sort),
         }
     }
 
-    /// The point after a token behind two or more identifiers of signatures.
+    /// Hands over a token behind two or more identifiers of signatures.
     #[tactic(auto, unfolding(crate::specs::Machine::includes))]
-    pub fn includes(
-        &mut self,
-        alloc: Global,
-        mut names: List<SigExp>,
-        place: u32,
-        sort: Sort,
-    ) -> Result<Option<Point>, NoMemory>
-        ensures value { IfOk result (λ o. option_map (at_point self.new) o
-            ≡ machine.includes self.old.decs (reverse self.old.levels) names place sort) }
+    pub fn includes(&mut self, alloc: Global, place: u32, sort: Sort) -> Result<bool, NoMemory>
+        ensures value { IfOk result (λ can. taken can (state_of self.new)
+            ≡ machine.includes self.old.decs (levels self.old) self.old.sigs place sort) }
     {
         if sort.is_strid() {
-            names.push(name_of(alloc, place))?;
-            Ok(Some(Point::Includes(names)))
+            self.sigs.push(name_of(alloc, place))?;
+            self.point = Point::Includes;
+            Ok(true)
         } else {
-            self.behind_spec(alloc, Spec::Include(names), sort)
+            let sigs = self.sigs.take_all()?;
+            self.behind_spec(Spec::Include(sigs), sort)
         }
     }
 }

@@ -1,297 +1,257 @@
 // The reading of a signature file, one token at a time.
-ghost use Rattle.std.specs.Prelude.{◌≡◌, ℕ, ◌+◌, ◌<◌, ◌^◌, [], IfOk, reverse};
-ghost use Rattle.std.specs.Option.{option_map};
+ghost use Rattle.std.specs.Prelude.{◌≡◌, ◌<◌, ◌^◌, IfOk, OnOk};
 ghost use Rattle.ty_parser.specs.Machine as types;
+ghost use Rattle.ty_parser.specs.Machine.{last_of, before_last, taken};
 ghost use Rattle.sig_parser.specs.Machine as machine;
-ghost use Rattle.sig_parser.specs.Machine.{at_point, at_stage, state_of};
-ghost use Rattle.sig_parser.specs.declared.point.Context.{Context};
+ghost use Rattle.sig_parser.specs.Machine.{At};
+ghost use Rattle.sig_parser.specs.Views.{state_of, levels_over, goal_of, open_of, owner_of, before_owner, step_outside, type_ended, ended_outside, file_of, parens_at};
 
-use crate::descriptions::{
-    after_equals, after_sharing, after_sharing_type, have_param, have_val, one_shared, want_con,
-    want_param, want_params, want_shared, want_tycon, want_val,
-};
-use crate::point::{Context, Goal, Group, Open, Owner, Point, Reading, Stage};
-use crate::sigs::{after_and, after_where, have_id, name_of, want_id};
+use crate::point::{Goal, Group, Open, Owner, Point, Reading};
+use crate::sigs::{closed, name_of};
 use crate::tree::{Bind, ConDesc, SigExp, SourceFile, TopDec, TypeDesc, ValDesc, WherePart};
-use sig_base::{List, NoMemory};
+use sig_base::NoMemory;
 use std::alloc::Global;
-use ty_parser::{Reader as TypeReader, Sort, TypeAt};
+use ty_parser::{Sort, TypeAt, one_more};
 
-// Where reading stands outside of types.
-fn staged(point: Option<Point>) -> Option<Stage>
-    ensures { (context : Context) → option_map (at_stage context) result ≡ option_map (at_point context) point }
-{
-    match point {
-        None => None,
-        Some(point) => Some(Stage::At(point)),
-    }
-}
-
-#[tactic(auto, unfolding(crate::specs::Machine::begin_type))]
-fn begin_type(
-    alloc: Global,
-    owner: Owner,
-    place: u32,
-    sort: Sort,
-) -> Result<Option<Stage>, NoMemory>
-    ensures { IfOk result (λ o. (context : Context) → option_map (at_stage context) o
-        ≡ machine.begin_type context.decs (reverse context.levels) owner place (types.step types.start (place, sort))) }
-{
-    match TypeReader::new(alloc).next(alloc, place, sort)? {
-        None => Ok(None),
-        Some(reader) => Ok(Some(Stage::InType(owner, place, reader))),
-    }
-}
-
-fn with_part(mut begun: Open, part: WherePart) -> Result<Open, NoMemory>
-    ensures { IfOk result (λ o. o ≡ machine.with_part begun part) }
-{
-    begun.parts.push(part)?;
-    Ok(begun)
-}
-
-// The point after a type.
-fn owned(owner: Owner, ty: TypeAt) -> Result<Point, NoMemory>
-    ensures { IfOk result (λ p. p ≡ machine.owned owner ty) }
-{
-    match owner {
-        Owner::Val(mut values, id) => {
-            values.push(ValDesc { id, ty })?;
-            Ok(Point::Vals(values))
-        }
-        Owner::Where(begun, at, params, tycon) => {
-            let part = WherePart {
-                at,
-                params,
-                tycon,
-                ty,
-            };
-            Ok(Point::HavePart(with_part(begun, part)?))
-        }
-        Owner::Type(mut types, params, id) => {
-            let rhs = Some(ty);
-            types.push(TypeDesc { params, id, rhs })?;
-            Ok(Point::Types(types))
-        }
-        Owner::Con(cons, mut before, id) => {
-            let arg = Some(ty);
-            before.push(ConDesc { id, arg })?;
-            Ok(Point::HaveCons(cons, before))
-        }
-    }
-}
-
-impl Context {
-    #[tactic(auto, unfolding(crate::specs::Machine::begin_type))]
-    fn at(
-        &mut self,
-        alloc: Global,
-        point: Point,
-        place: u32,
-        sort: Sort,
-    ) -> Result<Option<Stage>, NoMemory>
-        ensures { IfOk result (λ o. option_map (at_stage self.new) o
-            ≡ machine.step_at self.old.decs (reverse self.old.levels) point place sort) }
-    {
-        match point {
-            Point::Items => Ok(staged(self.item(alloc, sort)?)),
-            Point::WantId(group, all) => Ok(staged(want_id(group, all, place, sort))),
-            Point::HaveId(group, all, id) => Ok(staged(have_id(group, all, id, sort))),
-            Point::Bound(group, all) => Ok(staged(self.bound(alloc, group, all, sort)?)),
-            Point::WantSig(goal) => Ok(staged(self.want_sig(alloc, goal, place, sort)?)),
-            Point::HaveName(goal, id) => Ok(staged(self.have_name(alloc, goal, id, place, sort)?)),
-            Point::HaveSig(begun) => Ok(staged(self.have_sig(alloc, begun, place, sort)?)),
-            Point::AfterWhere(begun, at) => Ok(staged(after_where(begun, at, sort))),
-            Point::HavePart(begun) => Ok(staged(self.have_part(alloc, begun, place, sort)?)),
-            Point::AfterAnd(begun, at) => Ok(staged(after_and(begun, at, place, sort)?)),
-            Point::WantVal(all) => Ok(staged(want_val(all, place, sort))),
-            Point::HaveVal(all, id) => Ok(staged(have_val(all, id, sort))),
-            Point::Vals(all) => Ok(staged(self.vals(alloc, all, sort)?)),
-            Point::WantParams(headed) => Ok(staged(want_params(alloc, headed, place, sort)?)),
-            Point::WantParam(headed, all) => Ok(staged(want_param(headed, all, place, sort)?)),
-            Point::HaveParam(headed, all) => Ok(staged(have_param(headed, all, sort))),
-            Point::WantTycon(headed, all) => Ok(staged(want_tycon(headed, all, place, sort))),
-            Point::HaveTycon(headed, all, id) => {
-                Ok(staged(self.have_tycon(alloc, headed, all, id, sort)?))
-            }
-            Point::Types(all) => Ok(staged(self.types(alloc, all, sort)?)),
-            Point::Eqtypes(all) => Ok(staged(self.eqtypes(alloc, all, sort)?)),
-            Point::AfterEquals(all, params, id) => {
-                Ok(staged(after_equals(alloc, all, params, id, place, sort)))
-            }
-            Point::WantReplica(id) => Ok(staged(self.want_replica(id, place, sort)?)),
-            Point::WantCon(cons, all) => Ok(staged(want_con(cons, all, place, sort))),
-            Point::HaveCon(cons, all, id) => Ok(staged(self.have_con(alloc, cons, all, id, sort)?)),
-            Point::HaveCons(cons, all) => Ok(staged(self.have_cons(alloc, cons, all, sort)?)),
-            Point::Datatypes(all) => Ok(staged(self.datatypes(alloc, all, sort)?)),
-            Point::Includes(all) => Ok(staged(self.includes(alloc, all, place, sort)?)),
-            Point::AfterSharing => Ok(staged(after_sharing(place, sort))),
-            Point::AfterSharingType => Ok(staged(after_sharing_type(place, sort))),
-            Point::OneShared(shared, id) => Ok(staged(one_shared(alloc, shared, id, sort)?)),
-            Point::WantShared(shared, all) => Ok(staged(want_shared(shared, all, place, sort)?)),
-            Point::HaveShared(shared, all) => Ok(staged(self.have_shared(
-                alloc, shared, all, sort,
-            )?)),
-            Point::WantType(owner) => begin_type(alloc, owner, place, sort),
-        }
-    }
-
-    #[tactic(auto, unfolding(crate::specs::Machine::in_type, crate::specs::Machine::behind_type))]
-    fn in_type(
-        &mut self,
-        alloc: Global,
-        owner: Owner,
-        first: u32,
-        reader: TypeReader,
-        place: u32,
-        sort: Sort,
-    ) -> Result<Option<Stage>, NoMemory>
-        ensures { IfOk result (λ o. option_map (at_stage self.new) o
-            ≡ machine.in_type self.old.decs (reverse self.old.levels) owner first (types.step (types.state_of reader) (place, sort)) (types.finish (types.state_of reader)) place sort) }
-    {
-        if reader.accepts(sort) {
-            return match reader.next(alloc, place, sort)? {
-                None => Ok(None),
-                Some(further) => Ok(Some(Stage::InType(owner, first, further))),
-            };
-        }
-        match reader.finish()? {
-            None => Ok(None),
-            Some(ty) => {
-                let point = owned(owner, TypeAt { first, ty })?;
-                self.at(alloc, point, place, sort)
-            }
-        }
-    }
-
-    /// Where reading stands after a token with this number and sort; `None` exactly where it cannot
-    /// stand there.
-    pub fn next(
-        &mut self,
-        alloc: Global,
-        stage: Stage,
-        place: u32,
-        sort: Sort,
-    ) -> Result<Option<Stage>, NoMemory>
-        ensures value { IfOk result (λ o. option_map (at_stage self.new) o
-            ≡ machine.step (at_stage self.old stage) (place, sort)) }
-    {
-        match stage {
-            Stage::At(point) => self.at(alloc, point, place, sort),
-            Stage::InType(owner, first, reader) => {
-                self.in_type(alloc, owner, first, reader, place, sort)
-            }
-        }
-    }
-
-    /// How many parentheses, braces and `sig` are open.
-    pub fn depth(&self, stage: &Stage) -> u32
-        requires small { machine.depth (at_stage self.now stage.now) < 2 ^ 32 }
-        ensures value { result ≡ machine.depth (at_stage self.now stage.now) }
-    {
-        match stage {
-            Stage::At(point) => self.levels.len() as u32 + parens(point),
-            Stage::InType(_, _, reader) => self.levels.len() as u32 + reader.depth(),
-        }
-    }
-}
-
-impl Reading {
-    /// The reading after a token with this number and sort; `None` exactly where it cannot stand there.
-    pub fn next(self, alloc: Global, place: u32, sort: Sort) -> Result<Option<Reading>, NoMemory>
-        ensures value { IfOk result (λ o. option_map state_of o ≡ machine.step (state_of self) (place, sort)) }
-    {
-        let Reading { mut context, stage } = self;
-        match context.next(alloc, stage, place, sort)? {
-            None => Ok(None),
-            Some(stage) => Ok(Some(Reading { context, stage })),
-        }
-    }
-}
-
+// How many parentheses are open at a point.
 #[tactic(auto, unfolding(crate::specs::Machine::open_at))]
-fn parens(point: &Point) -> u32
-    ensures { (n : ℕ) → n + result ≡ machine.open_at point.now n }
+fn parens(point: Point) -> u32
+    ensures { result ≡ parens_at point }
 {
     match point {
-        Point::WantParam(_, _) | Point::HaveParam(_, _) => 1,
+        Point::WantParam(_) => 1,
+        Point::HaveParam(_) => 1,
         _ => 0,
     }
 }
 
-fn ended_group(
-    mut decs: List<TopDec>,
-    group: Group,
-    bindings: List<Bind>,
-) -> Result<Option<SourceFile>, NoMemory>
-    ensures { IfOk result (λ o. o ≡ machine.ended_group decs group bindings) }
-{
-    match group {
-        Group::Signatures => {
-            decs.push(TopDec::Signature(bindings))?;
-            Ok(Some(SourceFile { decs }))
-        }
-        Group::Structures => {
-            decs.push(TopDec::Structure(bindings))?;
-            Ok(Some(SourceFile { decs }))
-        }
-        Group::Members => Ok(None),
+impl Reading {
+    #[tactic(auto, unfolding(crate::specs::Machine::begin_type))]
+    fn begin_type(
+        &mut self,
+        alloc: Global,
+        owner: Owner,
+        place: u32,
+        sort: Sort,
+    ) -> Result<bool, NoMemory>
+        ensures { IfOk result (λ can. taken can (state_of self.new)
+            ≡ machine.begin_type self.old.decs (levels_over self.old (before_owner owner self.old.bindings)) (owner_of owner self.old) place (types.step types.start (place, sort))) }
+    {
+        self.reader.restart();
+        self.point = Point::InType(owner, place);
+        self.reader.next(alloc, place, sort)
     }
-}
 
-fn ended_sig(decs: List<TopDec>, goal: Goal, sig: SigExp) -> Result<Option<SourceFile>, NoMemory>
-    ensures { IfOk result (λ o. o ≡ machine.ended_sig decs goal sig) }
-{
-    match goal {
-        Goal::Binding(group, mut bindings, id) => {
-            bindings.push(Bind { id, rhs: sig })?;
-            ended_group(decs, group, bindings)
+    // The point after a type.
+    fn owned(&mut self, owner: Owner, ty: TypeAt) -> Result<(), NoMemory>
+        ensures { OnOk result (state_of self.new
+            ≡ At self.old.decs (levels_over self.old (before_owner owner self.old.bindings)) (machine.owned (owner_of owner self.old) ty)) }
+    {
+        match owner {
+            Owner::Val(id) => {
+                self.values.push(ValDesc { id, ty })?;
+                self.point = Point::Vals;
+                Ok(())
+            }
+            Owner::Where(begun, at, tycon) => {
+                let params = self.params.take_all()?;
+                self.parts.push(WherePart {
+                    at,
+                    params,
+                    tycon,
+                    ty,
+                })?;
+                self.point = Point::HavePart(begun);
+                Ok(())
+            }
+            Owner::Type(id) => {
+                let params = self.params.take_all()?;
+                let rhs = Some(ty);
+                self.types.push(TypeDesc { params, id, rhs })?;
+                self.point = Point::Types;
+                Ok(())
+            }
+            Owner::Con(cons, id) => {
+                let arg = Some(ty);
+                self.cons.push(ConDesc { id, arg })?;
+                self.point = Point::HaveCons(cons);
+                Ok(())
+            }
         }
-        Goal::Including => Ok(None),
     }
-}
 
-#[tactic(auto, unfolding(crate::specs::Machine::ended))]
-fn ended(alloc: Global, decs: List<TopDec>, point: Point) -> Result<Option<SourceFile>, NoMemory>
-    ensures { IfOk result (λ o. o ≡ machine.ended decs point) }
-{
-    match point {
-        Point::Items => Ok(Some(SourceFile { decs })),
-        Point::Bound(group, bindings) => ended_group(decs, group, bindings),
-        Point::HaveName(goal, id) => ended_sig(decs, goal, name_of(alloc, id)),
-        Point::HaveSig(begun) | Point::HavePart(begun) => {
-            let (goal, sig) = begun.closed();
-            ended_sig(decs, goal, sig)
+    fn at(&mut self, alloc: Global, place: u32, sort: Sort) -> Result<bool, NoMemory>
+        ensures { IfOk result (λ can. taken can (state_of self.new)
+            ≡ step_outside (state_of self.old) place sort) }
+    {
+        match self.point {
+            Point::Items => self.item(sort),
+            Point::WantVal => Ok(self.want_val(place, sort)),
+            Point::HaveVal(id) => Ok(self.have_val(id, sort)),
+            Point::Vals => self.vals(sort),
+            Point::WantParams(headed) => self.want_params(headed, place, sort),
+            Point::WantParam(headed) => self.want_param(headed, place, sort),
+            Point::HaveParam(headed) => Ok(self.have_param(headed, sort)),
+            Point::WantTycon(headed) => Ok(self.want_tycon(headed, place, sort)),
+            Point::HaveTycon(headed, id) => self.have_tycon(headed, id, sort),
+            Point::Types => self.types(sort),
+            Point::Eqtypes => self.eqtypes(sort),
+            Point::AfterEquals(id) => Ok(self.after_equals(id, place, sort)),
+            Point::WantReplica(id) => self.want_replica(id, place, sort),
+            Point::WantCon(cons) => Ok(self.want_con(cons, place, sort)),
+            Point::HaveCon(cons, id) => self.have_con(cons, id, sort),
+            Point::HaveCons(cons) => self.have_cons(cons, sort),
+            Point::Datatypes => self.datatypes(sort),
+            Point::AfterSharing => Ok(self.after_sharing(place, sort)),
+            Point::AfterSharingType => Ok(self.after_sharing_type(place, sort)),
+            Point::OneShared(shared, id) => self.one_shared(shared, id, sort),
+            Point::WantShared(shared) => self.want_shared(shared, place, sort),
+            Point::HaveShared(shared) => self.have_shared(shared, sort),
+            Point::WantType(owner) => self.begin_type(alloc, owner, place, sort),
+            Point::WantSig(goal) => self.want_sig(goal, place, sort),
+            Point::HaveName(goal, id) => self.have_name(alloc, goal, id, place, sort),
+            Point::HaveSig(begun) => self.have_sig(alloc, begun, place, sort),
+            Point::AfterWhere(begun, at) => Ok(self.after_where(begun, at, sort)),
+            Point::HavePart(begun) => self.have_part(alloc, begun, place, sort),
+            Point::AfterAnd(begun, at) => self.after_and(alloc, begun, at, place, sort),
+            Point::WantId(group, count) => Ok(self.want_id(group, count, place, sort)),
+            Point::HaveId(group, count, id) => Ok(self.have_id(group, count, id, sort)),
+            Point::Bound(group, count) => self.bound(group, count, sort),
+            Point::Includes => self.includes(alloc, place, sort),
+            Point::InType(_, _) => Ok(false),
         }
-        _ => Ok(None),
     }
-}
 
-#[tactic(auto, unfolding(crate::specs::Machine::ended_type))]
-fn ended_stage(
-    alloc: Global,
-    decs: List<TopDec>,
-    stage: Stage,
-) -> Result<Option<SourceFile>, NoMemory>
-    ensures { IfOk result (λ o. o ≡ machine.finish (at_stage (record { decs = decs; levels = [] }) stage)) }
-{
-    match stage {
-        Stage::At(point) => ended(alloc, decs, point),
-        Stage::InType(owner, first, reader) => match reader.finish()? {
-            None => Ok(None),
-            Some(ty) => ended(alloc, decs, owned(owner, TypeAt { first, ty })?),
-        },
+    #[tactic(auto, unfolding(crate::specs::Machine::behind_type))]
+    fn behind_type(
+        &mut self,
+        alloc: Global,
+        owner: Owner,
+        first: u32,
+        place: u32,
+        sort: Sort,
+    ) -> Result<bool, NoMemory>
+        ensures { IfOk result (λ can. taken can (state_of self.new)
+            ≡ machine.behind_type self.old.decs (levels_over self.old (before_owner owner self.old.bindings)) (owner_of owner self.old) first (types.finish (types.state_of self.old.reader)) place sort) }
+    {
+        match self.reader.finish()? {
+            None => Ok(false),
+            Some(ty) => {
+                self.owned(owner, TypeAt { first, ty })?;
+                self.at(alloc, place, sort)
+            }
+        }
     }
-}
 
-/// The file that was read; `None` exactly where it cannot end here.
-pub fn finish(alloc: Global, context: Context, stage: Stage) -> Result<Option<SourceFile>, NoMemory>
-    ensures value { IfOk result (λ o. o ≡ machine.finish (at_stage context stage)) }
-{
-    let Context { decs, levels } = context;
-    if levels.is_empty() {
-        ended_stage(alloc, decs, stage)
-    } else {
-        Ok(None)
+    /// Hands over the token with this number and sort; false exactly where it cannot stand there.
+    #[tactic(auto, unfolding(crate::specs::Machine::in_type))]
+    pub fn next(&mut self, alloc: Global, place: u32, sort: Sort) -> Result<bool, NoMemory>
+        ensures value { IfOk result (λ can. taken can (state_of self.new)
+            ≡ machine.step (state_of self.old) (place, sort)) }
+    {
+        match self.point {
+            Point::InType(owner, first) => {
+                if self.reader.accepts(sort) {
+                    self.reader.next(alloc, place, sort)
+                } else {
+                    self.behind_type(alloc, owner, first, place, sort)
+                }
+            }
+            _ => self.at(alloc, place, sort),
+        }
+    }
+
+    /// How many parentheses, braces and `sig` are open.
+    pub fn depth(&self) -> u32
+        requires small { machine.depth (state_of self.now) < 2 ^ 32 }
+        ensures value { result ≡ machine.depth (state_of self.now) }
+    {
+        match self.point {
+            Point::InType(_, _) => self.levels.len() as u32 + self.reader.depth(),
+            _ => self.levels.len() as u32 + parens(self.point),
+        }
+    }
+
+    fn ended_group(&mut self, group: Group, count: usize) -> Result<bool, NoMemory>
+        ensures { IfOk result (λ can. taken can (file_of self.new)
+            ≡ machine.ended_group self.old.decs group (last_of count self.old.bindings)) }
+    {
+        let bindings = self.bindings.take_last(count)?;
+        match group {
+            Group::Signatures => {
+                self.decs.push(TopDec::Signature(bindings))?;
+                Ok(true)
+            }
+            Group::Structures => {
+                self.decs.push(TopDec::Structure(bindings))?;
+                Ok(true)
+            }
+            Group::Members => Ok(false),
+        }
+    }
+
+    fn ended_sig(&mut self, goal: Goal, sig: SigExp) -> Result<bool, NoMemory>
+        ensures { IfOk result (λ can. taken can (file_of self.new)
+            ≡ machine.ended_sig self.old.decs (goal_of goal self.old.bindings) sig) }
+    {
+        match goal {
+            Goal::Binding(group, count, id) => {
+                self.bindings.push(Bind { id, rhs: sig })?;
+                self.ended_group(group, one_more(count)?)
+            }
+            Goal::Including => Ok(false),
+        }
+    }
+
+    fn ended_open(&mut self, alloc: Global, begun: Open) -> Result<bool, NoMemory>
+        ensures { IfOk result (λ can. taken can (file_of self.new)
+            ≡ machine.ended_sig self.old.decs (open_of begun self.old).goal (machine.sig_of (open_of begun self.old))) }
+    {
+        let sig = closed(alloc, begun, &mut self.body, &mut self.parts)?;
+        self.ended_sig(begun.goal, sig)
+    }
+
+    #[tactic(auto, unfolding(crate::specs::Machine::ended))]
+    fn ended(&mut self, alloc: Global) -> Result<bool, NoMemory>
+        ensures { IfOk result (λ can. taken can (file_of self.new) ≡ ended_outside (state_of self.old)) }
+    {
+        match self.point {
+            Point::Items => Ok(true),
+            Point::Bound(group, count) => self.ended_group(group, count),
+            Point::HaveName(goal, id) => self.ended_sig(goal, name_of(alloc, id)),
+            Point::HaveSig(begun) => self.ended_open(alloc, begun),
+            Point::HavePart(begun) => self.ended_open(alloc, begun),
+            _ => Ok(false),
+        }
+    }
+
+    // Ends the type that is read, if there is one.
+    fn end_type(&mut self) -> Result<bool, NoMemory>
+        ensures { IfOk result (λ can. taken can (state_of self.new) ≡ type_ended (state_of self.old)) }
+    {
+        match self.point {
+            Point::InType(owner, first) => match self.reader.finish()? {
+                None => Ok(false),
+                Some(ty) => {
+                    self.owned(owner, TypeAt { first, ty })?;
+                    Ok(true)
+                }
+            },
+            _ => Ok(true),
+        }
+    }
+
+    /// Whether the file can end here: then its declarations are whole.
+    pub fn finish(&mut self, alloc: Global) -> Result<bool, NoMemory>
+        ensures value { IfOk result (λ can. taken can (file_of self.new) ≡ machine.finish (state_of self.old)) }
+    {
+        if !self.levels.is_empty() {
+            return Ok(false);
+        }
+        let can = self.end_type()?;
+        if !can {
+            return Ok(false);
+        }
+        self.ended(alloc)
     }
 }

@@ -6,14 +6,11 @@ use Rattle.ty_parser.specs.declared.sort.Sort.{Sort}
 use Rattle.ty_parser.specs.declared.sort.Sort.TheVariants as s
 use Rattle.ty_parser.specs.declared.tree.TyExp.{TyExp}
 use Rattle.ty_parser.specs.declared.tree.TyExp.TheVariants as ty
-use Rattle.ty_parser.specs.declared.reader.Level.{Level}
-use Rattle.ty_parser.specs.declared.reader.Opened.{Opened}
-use Rattle.ty_parser.specs.declared.reader.Opened.TheVariants as opened
 use Rattle.ty_parser.specs.declared.reader.Operand.{Operand}
 use Rattle.ty_parser.specs.declared.reader.Operand.TheVariants as operand
 use Rattle.ty_parser.specs.declared.tree.FieldExp.{FieldExp}
 use Rattle.ty_parser.specs.Grammar.{Numbered, field}
-use Rattle.ty_parser.specs.Machine.{Stack, State, Want, Have, Brace, Label, Colon, Tycon, stack, tree_of, inside_field, whole, enclosed, right_paren, right_brace, want, leave, have, no_fields, brace, label, colon, tycon, step, closed, finish}
+use Rattle.ty_parser.specs.Machine.{Parens, Braces, Level, Opened, Stack, State, Want, Have, Brace, Label, Colon, Tycon, stack, tree_of, inside_field, whole, enclosed, right_paren, right_brace, want, leave, have, no_fields, brace, label, colon, tycon, step, closed, finish}
 use Rattle.ty_parser.proofs.Complete.{Steps, here, next}
 
 -- further sorts, numbered from n, with which the state comes to the end of a type, whatever follows
@@ -33,10 +30,10 @@ mutual
 
   have_completes : (n : ℕ) (ls : List Opened) (l : Level) (a : Operand) → Completes n (Have (stack ls l) a)
   have_completes n [] l a = record { more = []; last = _; tree = _; steps = λ r. here; finished = refl }
-  have_completes n (opened.Parens o [] ∷ ls) l a = goes_on n _ _ (s.Reserved w.KwRParen) refl (have_completes (n + 1) ls o (operand.Alone (whole l (tree_of a))))
-  have_completes n (opened.Parens o (e ∷ es) ∷ ls) l a =
+  have_completes n (Parens o [] ∷ ls) l a = goes_on n _ _ (s.Reserved w.KwRParen) refl (have_completes (n + 1) ls o (operand.Alone (whole l (tree_of a))))
+  have_completes n (Parens o (e ∷ es) ∷ ls) l a =
       goes_on n _ _ (s.Reserved w.KwRParen) refl (goes_on (n + 1) _ _ s.Alphanumeric refl (have_completes (n + 1 + 1) ls o (operand.Applied ((e ∷ es) ++ whole l (tree_of a) ∷ []) ((n + 1) ∷ []))))
-  have_completes n (opened.Braces o fs i ∷ ls) l a = goes_on n _ _ (s.Reserved w.KwRBrace) refl (have_completes (n + 1) ls o (operand.Alone (ty.Fields (fs ++ field i (whole l (tree_of a)) ∷ []))))
+  have_completes n (Braces o fs i ∷ ls) l a = goes_on n _ _ (s.Reserved w.KwRBrace) refl (have_completes (n + 1) ls o (operand.Alone (ty.Fields (fs ++ field i (whole l (tree_of a)) ∷ []))))
 
 want_completes : (n : ℕ) (k : Stack) → Completes n (Want k)
 unfolding want

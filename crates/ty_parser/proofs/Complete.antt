@@ -5,15 +5,12 @@ use Rattle.ty_parser.specs.declared.sort.Sort.{Sort}
 use Rattle.ty_parser.specs.declared.tree.TyExp.{TyExp}
 use Rattle.ty_parser.specs.declared.tree.TyExp.TheVariants as ty
 use Rattle.ty_parser.specs.declared.tree.FieldExp.{FieldExp}
-use Rattle.ty_parser.specs.declared.reader.Level.{Level}
-use Rattle.ty_parser.specs.declared.reader.Opened.{Opened}
-use Rattle.ty_parser.specs.declared.reader.Opened.TheVariants as opened
 use Rattle.ty_parser.specs.declared.reader.Operand.{Operand}
 use Rattle.ty_parser.specs.declared.reader.Operand.TheVariants as operand
 use Rattle.ty_parser.specs.Sorts.{is_label, is_long_tycon}
 use Rattle.ty_parser.specs.Grammar.{Numbered, of_parts, field, Ty, sides, Sides, one_side, more_sides, Tuple, parts, Parts, one_part, more_parts, App, alone, applied, Applied, to_none, to_one, to_more, further, Unary, variable, no_fields, fields, parens, Fields, one_field, more_fields, Types, one_type, more_types}
 use Rattle.ty_parser.specs.Machine as machine
-use Rattle.ty_parser.specs.Machine.{Stack, State, Want, Have, Label, Colon, Tycon, fresh, stack, start, tree_of, with_constructor, tuple_of, with_part, with_side, inside, inside_field, whole, comma, enclosed, right_paren, right_brace, begin, want, leave, have, brace, label, colon, tycon, step, run, closed, finish}
+use Rattle.ty_parser.specs.Machine.{Parens, Braces, Level, Opened, Stack, State, Want, Have, Label, Colon, Tycon, fresh, stack, start, tree_of, with_constructor, tuple_of, with_part, with_side, inside, inside_field, whole, comma, enclosed, right_paren, right_brace, begin, want, leave, have, brace, label, colon, tycon, step, run, closed, finish}
 
 -- reading the tokens up to the rest leads from one state to the other
 pub data Steps : State → List Numbered → State → List Numbered → Type 0 where
@@ -113,7 +110,7 @@ pub record TypesSteps (l : Level) (ls : List Opened) (ts r : List Numbered) (es 
   pub parts : List TyExp
   pub last : Operand
   pub trees : before ++ whole (level sides parts) (tree_of last) ∷ [] ≡ es
-  pub steps : Steps (Want (stack (opened.Parens l [] ∷ ls) fresh)) ts (Have (stack (opened.Parens l before ∷ ls) (level sides parts)) last) r
+  pub steps : Steps (Want (stack (Parens l [] ∷ ls) fresh)) ts (Have (stack (Parens l before ∷ ls) (level sides parts)) last) r
 
 -- the same, from a left brace, to the fields fs
 pub record FieldsSteps (l : Level) (ls : List Opened) (ts r : List Numbered) (fs : List FieldExp) : Type 0 where
@@ -123,7 +120,7 @@ pub record FieldsSteps (l : Level) (ls : List Opened) (ts r : List Numbered) (fs
   pub parts : List TyExp
   pub last : Operand
   pub trees : before ++ field label (whole (level sides parts) (tree_of last)) ∷ [] ≡ fs
-  pub steps : Steps (machine.Brace (stack ls l)) ts (Have (stack (opened.Braces l before label ∷ ls) (level sides parts)) last) r
+  pub steps : Steps (machine.Brace (stack ls l)) ts (Have (stack (Braces l before label ∷ ls) (level sides parts)) last) r
 
 mutual
   unfolding with_constructor with_part with_side inside inside_field comma right_paren right_brace enclosed begin want leave have machine.no_fields brace colon whole
@@ -135,7 +132,7 @@ mutual
       let h = fields_steps k.level k.outer d in
       next refl (steps-trans h.steps (next (ap (λ fs. Some (Have k (operand.Alone (ty.Fields fs)))) h.trees) here))
   unary_steps k (parens d) =
-      let h = type_steps (opened.Parens k.level [] ∷ k.outer) d in
+      let h = type_steps (Parens k.level [] ∷ k.outer) d in
       next refl (steps-trans h.steps (next (ap (λ e. Some (Have k (operand.Alone e))) h.tree) here))
 
   pub applied_steps : {ts r : List Numbered} {us : List TyExp} {cs : List ℕ} (k : Stack) → Applied ts r us cs → Steps (Want k) ts (Have k (operand.Applied us cs)) r
@@ -143,8 +140,8 @@ mutual
   applied_steps k (to_one {i = i} {so = so} {e = e} d named) = steps-trans (unary_steps k d) (next (have_tycon i so named k (operand.Alone e)) here)
   applied_steps k (to_more {l = i} {so = so} {es = es} {e = e} d t named) =
       let h = types_steps k.level k.outer d in
-      let g = type_steps (opened.Parens k.level es ∷ k.outer) t in
-      next refl (steps-trans h.steps (next (ap (λ es. Some (Want (stack (opened.Parens k.level es ∷ k.outer) fresh))) h.trees)
+      let g = type_steps (Parens k.level es ∷ k.outer) t in
+      next refl (steps-trans h.steps (next (ap (λ es. Some (Want (stack (Parens k.level es ∷ k.outer) fresh))) h.trees)
       (steps-trans g.steps (next (ap (λ e. Some (enclosed k es e)) g.tree ∙ ap Some (enclosed_types k e d)) (next (arguments_tycon i so named k (es ++ e ∷ [])) here)))))
   applied_steps k (further {i = i} {so = so} {es = es} {cs = cs} d named) = steps-trans (applied_steps k d) (next (have_tycon i so named k (operand.Applied es cs)) here)
 
@@ -191,23 +188,23 @@ mutual
 
   pub types_steps : {ts r : List Numbered} {es : List TyExp} (l : Level) (ls : List Opened) → Types ts r es → TypesSteps l ls ts r es
   types_steps l ls (one_type d) =
-      let h = type_steps (opened.Parens l [] ∷ ls) d in
+      let h = type_steps (Parens l [] ∷ ls) d in
       record { before = []; sides = h.sides; parts = h.parts; last = h.last; trees = ap (λ e. e ∷ []) h.tree; steps = h.steps }
   types_steps l ls (more_types {es = es} p d) =
       let g = types_steps l ls p in
-      let h = type_steps (opened.Parens l es ∷ ls) d in
+      let h = type_steps (Parens l es ∷ ls) d in
       record {
         before = es;
         sides = h.sides;
         parts = h.parts;
         last = h.last;
         trees = ap (λ e. es ++ e ∷ []) h.tree;
-        steps = steps-trans g.steps (next (ap (λ es. Some (Want (stack (opened.Parens l es ∷ ls) fresh))) g.trees) h.steps);
+        steps = steps-trans g.steps (next (ap (λ es. Some (Want (stack (Parens l es ∷ ls) fresh))) g.trees) h.steps);
       }
 
   pub fields_steps : {ts r : List Numbered} {fs : List FieldExp} (l : Level) (ls : List Opened) → Fields ts r fs → FieldsSteps l ls ts r fs
   fields_steps l ls (one_field {i = i} {so = so} named d) =
-      let h = type_steps (opened.Braces l [] i ∷ ls) d in
+      let h = type_steps (Braces l [] i ∷ ls) d in
       record {
         before = [];
         label = i;
@@ -219,7 +216,7 @@ mutual
       }
   fields_steps l ls (more_fields {i = i} {so = so} {fs = fs} p named d) =
       let g = fields_steps l ls p in
-      let h = type_steps (opened.Braces l fs i ∷ ls) d in
+      let h = type_steps (Braces l fs i ∷ ls) d in
       record {
         before = fs;
         label = i;

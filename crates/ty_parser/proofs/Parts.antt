@@ -1,5 +1,5 @@
 -- Reading a part: the invariant of the loop, and what each way on or out gives.
-use Rattle.std.proofs.Common.{◌≡◌, ℕ, ◌+◌, ◌<◌, ◌≤◌, Bool, false, List, length, get_or, drop, Option, Some, None, is_some, Result, Ok, Err, refl, ap, sym, ◌∙◌, subst, arith, inl, inr}
+use Rattle.std.proofs.Common.{◌≡◌, ℕ, ◌+◌, ◌<◌, ◌≤◌, Bool, true, false, List, length, get_or, drop, Option, Some, None, is_some, Result, Ok, Err, refl, ap, sym, ◌∙◌, subst, arith, inl, inr}
 use Rattle.std.specs.Prelude.{◌⊎◌, IfOk, IfErr}
 use Rattle.sml_lexer.specs.declared.token.Token.{Token}
 use Rattle.ty_parser.specs.declared.sort.Sort.{Sort}
@@ -10,7 +10,7 @@ use Rattle.ty_parser.specs.declared.tree.ParseRefusal.TheVariants as refusal
 use Rattle.ty_parser.specs.Sorts.{sort_of, sorts_of}
 use Rattle.ty_parser.specs.Phrases.{PhraseFrom, Reaches, most_open, opens, closes}
 use Rattle.ty_parser.specs.Parts.{Takes, PartIs, NoPartAt, DeepPartAt, RefusesPart}
-use Rattle.ty_parser.specs.Machine.{State, start, step, finish, depth}
+use Rattle.ty_parser.specs.Machine.{State, start, step, finish, depth, taken}
 use Rattle.ty_parser.proofs.Runs.{of_some}
 use Rattle.ty_parser.proofs.Viable.{ReadTo, opens_one, start_read, step_read, step_deep, step_reaches, end_reaches, finish_found, finish_none}
 use Rattle.ty_parser.proofs.Types.{types, step_depth}
@@ -24,6 +24,9 @@ pub record ReadPart (outside first : ℕ) (ss : List Sort) (place : ℕ) (st : S
 
 pub start_part : (outside first : ℕ) (ss : List Sort) (st : State) → outside ≤ most_open → st ≡ start → ReadPart outside first ss first st
 start_part outside first ss st le e = record { taken = 0; place_is = omega arith; read = start_read (types first) outside ss st le e }
+
+pub taken_some : (can : Bool) (st : State) (o : Option State) → taken can st ≡ o → can ≡ true → Some st ≡ o
+taken_some can st o e h = sym (ap (λ can. taken can st) h) ∙ e
 
 not_some : (o : Option State) → is_some o ≡ false → o ≡ None
 not_some None e = refl

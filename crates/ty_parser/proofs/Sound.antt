@@ -6,15 +6,12 @@ use Rattle.ty_parser.specs.declared.sort.Sort.{Sort}
 use Rattle.ty_parser.specs.declared.sort.Sort.TheVariants as s
 use Rattle.ty_parser.specs.declared.tree.TyExp.{TyExp}
 use Rattle.ty_parser.specs.declared.tree.FieldExp.{FieldExp}
-use Rattle.ty_parser.specs.declared.reader.Level.{Level}
-use Rattle.ty_parser.specs.declared.reader.Opened.{Opened}
-use Rattle.ty_parser.specs.declared.reader.Opened.TheVariants as opened
 use Rattle.ty_parser.specs.declared.reader.Operand.{Operand}
 use Rattle.ty_parser.specs.declared.reader.Operand.TheVariants as operand
 use Rattle.ty_parser.specs.Sorts.{is_label, is_long_tycon}
 use Rattle.ty_parser.specs.Grammar as grammar
 use Rattle.ty_parser.specs.Grammar.{Numbered, field, Ty, sides, Sides, one_side, more_sides, Tuple, parts, Parts, one_part, more_parts, App, alone, applied, Applied, to_none, to_one, to_more, further, Unary, variable, fields, parens, Fields, one_field, more_fields, Types, one_type, more_types}
-use Rattle.ty_parser.specs.Machine.{Stack, State, Want, Have, Brace, Label, Colon, Tycon, stack, start, tree_of, with_constructor, tuple_of, with_part, with_side, inside, inside_field, whole, comma, enclosed, right_paren, right_brace, begin, want, leave, have, no_fields, brace, label, colon, tycon, step, run, closed, finish}
+use Rattle.ty_parser.specs.Machine.{Parens, Braces, Level, Opened, Stack, State, Want, Have, Brace, Label, Colon, Tycon, stack, start, tree_of, with_constructor, tuple_of, with_part, with_side, inside, inside_field, whole, comma, enclosed, right_paren, right_brace, begin, want, leave, have, no_fields, brace, label, colon, tycon, step, run, closed, finish}
 use Rattle.ty_parser.proofs.Runs.{if_some-and_then}
 
 -- no parts, or parts and a star
@@ -46,8 +43,8 @@ pub record LevelTo (ts r : List Numbered) (l : Level) : Type 0 where
 -- what is open, each with the level before it, is what stands between the two
 pub data OuterTo : List Numbered → List Numbered → List Opened → Type 0 where
   outermost : {ts : List Numbered} → OuterTo ts ts []
-  in_parens : {i : ℕ} {ts m q r : List Numbered} {l : Level} {ls : List Opened} {es : List TyExp} → OuterTo ts m ls → LevelTo m ((i, s.Reserved w.KwLParen) ∷ q) l → TypesTo q r es → OuterTo ts r (opened.Parens l es ∷ ls)
-  in_braces : {h i c : ℕ} {ts m q r : List Numbered} {l : Level} {ls : List Opened} {fs : List FieldExp} → OuterTo ts m ls → LevelTo m ((h, s.Reserved w.KwLBrace) ∷ q) l → FieldsTo q ((c, s.Reserved w.KwColon) ∷ r) fs i → OuterTo ts r (opened.Braces l fs i ∷ ls)
+  in_parens : {i : ℕ} {ts m q r : List Numbered} {l : Level} {ls : List Opened} {es : List TyExp} → OuterTo ts m ls → LevelTo m ((i, s.Reserved w.KwLParen) ∷ q) l → TypesTo q r es → OuterTo ts r (Parens l es ∷ ls)
+  in_braces : {h i c : ℕ} {ts m q r : List Numbered} {l : Level} {ls : List Opened} {fs : List FieldExp} → OuterTo ts m ls → LevelTo m ((h, s.Reserved w.KwLBrace) ∷ q) l → FieldsTo q ((c, s.Reserved w.KwColon) ∷ r) fs i → OuterTo ts r (Braces l fs i ∷ ls)
 
 pub record StackTo (ts r : List Numbered) (k : Stack) : Type 0 where
   pub from : List Numbered
@@ -138,8 +135,8 @@ level_type l to a = sides (level_sides l to a)
 comma_sound : {j : ℕ} {ts m r : List Numbered} {e : TyExp} (ls : List Opened) → OuterTo ts m ls → Ty m ((j, s.Reserved w.KwComma) ∷ r) e → IfSome (comma ls e) (StateTo ts r)
 unfolding comma
 comma_sound [] to t = tt
-comma_sound (opened.Parens l es ∷ ls) (in_parens outer level d) t = fresh_to (in_parens outer level (some_types (types_join d t)))
-comma_sound (opened.Braces l fs i ∷ ls) (in_braces outer level d) t = record { left = _; comma = _; from = _; stack_to = record { from = _; outer_to = outer; level_to = level }; fields_to = fields_join d t }
+comma_sound (Parens l es ∷ ls) (in_parens outer level d) t = fresh_to (in_parens outer level (some_types (types_join d t)))
+comma_sound (Braces l fs i ∷ ls) (in_braces outer level d) t = record { left = _; comma = _; from = _; stack_to = record { from = _; outer_to = outer; level_to = level }; fields_to = fields_join d t }
 
 types_some : {ts r : List Numbered} {es : List TyExp} → Types ts r es → es ≡ [] → ⊥
 types_some (one_type d) e = cc
@@ -149,18 +146,18 @@ types_some (more_types {es = x ∷ es} d t) e = cc
 right_paren_sound : {j : ℕ} {ts m r : List Numbered} {e : TyExp} (ls : List Opened) → OuterTo ts m ls → Ty m ((j, s.Reserved w.KwRParen) ∷ r) e → IfSome (right_paren ls e) (StateTo ts r)
 unfolding right_paren enclosed
 right_paren_sound [] to t = tt
-right_paren_sound (opened.Parens l [] ∷ ls) (in_parens outer level no_types) t =
+right_paren_sound (Parens l [] ∷ ls) (in_parens outer level no_types) t =
     record { from = _; stack_to = record { from = _; outer_to = outer; level_to = level }; operand_to = parens t }
-right_paren_sound (opened.Parens l [] ∷ ls) (in_parens outer level (some_types d)) t = absurd (types_some d refl)
-right_paren_sound (opened.Parens l (x ∷ es) ∷ ls) (in_parens outer level (some_types d)) t =
+right_paren_sound (Parens l [] ∷ ls) (in_parens outer level (some_types d)) t = absurd (types_some d refl)
+right_paren_sound (Parens l (x ∷ es) ∷ ls) (in_parens outer level (some_types d)) t =
     record { left = _; comma = _; right = _; from = _; between = _; before = _; last = _; stack_to = record { from = _; outer_to = outer; level_to = level }; types_to = d; last_to = t; arguments = refl }
-right_paren_sound (opened.Braces l fs i ∷ ls) to t = tt
+right_paren_sound (Braces l fs i ∷ ls) to t = tt
 
 right_brace_sound : {j : ℕ} {ts m r : List Numbered} {e : TyExp} (ls : List Opened) → OuterTo ts m ls → Ty m ((j, s.Reserved w.KwRBrace) ∷ r) e → IfSome (right_brace ls e) (StateTo ts r)
 unfolding right_brace
 right_brace_sound [] to t = tt
-right_brace_sound (opened.Parens l es ∷ ls) to t = tt
-right_brace_sound (opened.Braces l fs i ∷ ls) (in_braces outer level d) t =
+right_brace_sound (Parens l es ∷ ls) to t = tt
+right_brace_sound (Braces l fs i ∷ ls) (in_braces outer level d) t =
     record { from = _; stack_to = record { from = _; outer_to = outer; level_to = level }; operand_to = fields (fields_join d t) }
 
 -- a state where it may be had, and else another

@@ -6,14 +6,12 @@ use Rattle.sig_base.specs.declared.word.Word.TheVariants as w
 use Rattle.ty_parser.specs.declared.sort.Sort.{Sort}
 use Rattle.ty_parser.specs.declared.sort.Sort.TheVariants as s
 use Rattle.ty_parser.specs.declared.tree.TyExp.{TyExp}
-use Rattle.ty_parser.specs.declared.reader.Opened.{Opened}
-use Rattle.ty_parser.specs.declared.reader.Opened.TheVariants as opened
 use Rattle.ty_parser.specs.declared.reader.Operand.TheVariants as operand
 use Rattle.ty_parser.specs.declared.tree.FieldExp.{FieldExp}
 use Rattle.ty_parser.specs.Sorts.{is_label, is_long_tycon}
 use Rattle.ty_parser.specs.Grammar.{Numbered, Ty}
 use Rattle.ty_parser.specs.Phrases.{PhraseFrom, opens, closes}
-use Rattle.ty_parser.specs.Machine.{Stack, State, Want, Have, Brace, Label, Colon, Tycon, start, tree_of, with_constructor, with_part, with_side, inside, inside_field, whole, comma, enclosed, right_paren, right_brace, begin, want, leave, have, no_fields, brace, label, colon, tycon, step, run, finish, depth}
+use Rattle.ty_parser.specs.Machine.{Parens, Braces, Opened, Stack, State, Want, Have, Brace, Label, Colon, Tycon, start, tree_of, with_constructor, with_part, with_side, inside, inside_field, whole, comma, enclosed, right_paren, right_brace, begin, want, leave, have, no_fields, brace, label, colon, tycon, step, run, finish, depth}
 use Rattle.ty_parser.proofs.Complete.{steps-run, type_read}
 use Rattle.ty_parser.proofs.Sound.{parse_sound, if_some-or}
 use Rattle.ty_parser.proofs.Closing.{completes}
@@ -46,21 +44,21 @@ begin_depth k i _ = tt
 comma_depth : (ls : List Opened) (e : TyExp) → IfSome (comma ls e) (Deepens (s.Reserved w.KwComma) (length ls))
 unfolding comma depth
 comma_depth [] e = tt
-comma_depth (opened.Parens l es ∷ ls) e = omega arith
-comma_depth (opened.Braces l fs i ∷ ls) e = omega arith
+comma_depth (Parens l es ∷ ls) e = omega arith
+comma_depth (Braces l fs i ∷ ls) e = omega arith
 
 right_paren_depth : (ls : List Opened) (e : TyExp) → IfSome (right_paren ls e) (Deepens (s.Reserved w.KwRParen) (length ls))
 unfolding right_paren enclosed depth
 right_paren_depth [] e = tt
-right_paren_depth (opened.Parens l [] ∷ ls) e = omega arith
-right_paren_depth (opened.Parens l (x ∷ es) ∷ ls) e = omega arith
-right_paren_depth (opened.Braces l fs i ∷ ls) e = tt
+right_paren_depth (Parens l [] ∷ ls) e = omega arith
+right_paren_depth (Parens l (x ∷ es) ∷ ls) e = omega arith
+right_paren_depth (Braces l fs i ∷ ls) e = tt
 
 right_brace_depth : (ls : List Opened) (e : TyExp) → IfSome (right_brace ls e) (Deepens (s.Reserved w.KwRBrace) (length ls))
 unfolding right_brace depth
 right_brace_depth [] e = tt
-right_brace_depth (opened.Parens l es ∷ ls) e = tt
-right_brace_depth (opened.Braces l fs i ∷ ls) e = omega arith
+right_brace_depth (Parens l es ∷ ls) e = tt
+right_brace_depth (Braces l fs i ∷ ls) e = omega arith
 
 leave_depth : (k : Stack) (e : TyExp) (so : Sort) → IfSome (leave k e so) (Deepens so (length k.outer))
 unfolding leave with_part with_side depth

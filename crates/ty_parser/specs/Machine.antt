@@ -1,21 +1,33 @@
 -- A reader of types that takes one token at a time, and settles nothing before the token that settles it.
-use Rattle.std.specs.Prelude.{ℕ, ◌+◌, List, [], ◌∷◌, ◌++◌, length, Option, Some, None, option_and_then, reverse, if◌then◌else◌}
+use Rattle.std.specs.Prelude.{ℕ, ◌+◌, ◌-◌, Bool, true, false, List, [], ◌∷◌, ◌++◌, length, take, drop, Option, Some, None, option_and_then, reverse, if◌then◌else◌}
 use Rattle.sig_base.specs.declared.word.Word.TheVariants as w
 use Rattle.ty_parser.specs.declared.sort.Sort.{Sort}
 use Rattle.ty_parser.specs.declared.sort.Sort.TheVariants as s
 use Rattle.ty_parser.specs.declared.tree.TyExp.{TyExp}
 use Rattle.ty_parser.specs.declared.tree.TyExp.TheVariants as ty
 use Rattle.ty_parser.specs.declared.tree.FieldExp.{FieldExp}
-use Rattle.ty_parser.specs.declared.reader.Level.{Level}
-use Rattle.ty_parser.specs.declared.reader.Opened.{Opened}
-use Rattle.ty_parser.specs.declared.reader.Opened.TheVariants as opened
-use Rattle.ty_parser.specs.declared.reader.Held.{Held}
+use Rattle.ty_parser.specs.declared.reader.LevelSize.{LevelSize}
+use Rattle.ty_parser.specs.declared.reader.Opening.{Opening}
+use Rattle.ty_parser.specs.declared.reader.Opening.TheVariants as opening
 use Rattle.ty_parser.specs.declared.reader.Operand.{Operand}
 use Rattle.ty_parser.specs.declared.reader.Operand.TheVariants as operand
+use Rattle.ty_parser.specs.declared.reader.Stage.{Stage}
+use Rattle.ty_parser.specs.declared.reader.Stage.TheVariants as stage
 use Rattle.ty_parser.specs.declared.reader.Reader.{Reader}
-use Rattle.ty_parser.specs.declared.reader.Reader.TheVariants as reader
 use Rattle.ty_parser.specs.Grammar.{Numbered, of_parts, field}
 use Rattle.ty_parser.specs.Sorts.{is_label, is_long_tycon}
+
+-- what was read of a type before its last operand: the sides before arrows, and after them the parts before stars
+pub record Level : Type 0 where
+  pub sides : List TyExp
+  pub parts : List TyExp
+
+-- what is open, with the level in which it was opened
+pub data Opened : Type 0 where
+  -- a parenthesis, and the types before commas
+  Parens : Level → List TyExp → Opened
+  -- a brace, the fields before commas, and the label of the field that is read
+  Braces : Level → List FieldExp → ℕ → Opened
 
 -- the innermost level, and what is open around it, the innermost first
 pub record Stack : Type 0 where
@@ -34,25 +46,70 @@ pub data State : Type 0 where
   -- after arguments in parentheses, which want a constructor
   Tycon : Stack → List TyExp → State
 
--- the levels that a reader holds
-abbrev pub stack_of : Held → Stack
-stack_of held = record { outer = reverse held.around; level = held.level }
-
--- the state that a reader is in
-abbrev pub state_of : Reader → State
-state_of (reader.Wants held) = Want (stack_of held)
-state_of (reader.Has held a) = Have (stack_of held) a
-state_of (reader.AfterBrace held) = Brace (stack_of held)
-state_of (reader.WantsLabel held fs) = Label (stack_of held) fs
-state_of (reader.WantsColon held fs i) = Colon (stack_of held) fs i
-state_of (reader.WantsTycon held es) = Tycon (stack_of held) es
-
 -- a level of which nothing is read
 abbrev pub fresh : Level
 fresh = record { sides = []; parts = [] }
 
 abbrev pub stack : List Opened → Level → Stack
 stack ls l = record { outer = ls; level = l }
+
+-- the last n of a list, and those before them
+abbrev pub last_of : {A : Type 0} → ℕ → List A → List A
+last_of n xs = drop (length xs - n) xs
+
+abbrev pub before_last : {A : Type 0} → ℕ → List A → List A
+before_last n xs = take (length xs - n) xs
+
+-- a level of this size, the last of the types, and the types before it
+abbrev pub level_of : LevelSize → List TyExp → Level
+level_of l es = record { sides = last_of l.sides (before_last l.parts es); parts = last_of l.parts es }
+
+abbrev pub before_level : LevelSize → List TyExp → List TyExp
+before_level l es = before_last l.sides (before_last l.parts es)
+
+-- what is open, the innermost first, over the types and the fields that were read in it
+abbrev pub opened_of : List Opening → List TyExp → List FieldExp → List Opened
+opened_of [] es fs = []
+opened_of (opening.Parens l n ∷ ls) es fs = Parens (level_of l (before_last n es)) (last_of n es) ∷ opened_of ls (before_level l (before_last n es)) fs
+opened_of (opening.Braces l n i ∷ ls) es fs = Braces (level_of l es) (last_of n fs) i ∷ opened_of ls (before_level l es) (before_last n fs)
+
+-- the levels of what is open, the outermost first, and of the level of this size, over the types and the fields that were read
+abbrev pub levels_of : List Opening → LevelSize → List TyExp → List FieldExp → Stack
+levels_of ls l es fs = stack (opened_of (reverse ls) (before_level l es) fs) (level_of l es)
+
+-- the levels that a reader holds, over these fields
+abbrev pub levels_over : Reader → List FieldExp → Stack
+levels_over r fs = levels_of r.around r.level r.types fs
+
+-- the levels that a reader holds
+abbrev pub stack_of : Reader → Stack
+stack_of r = levels_over r r.fields
+
+-- the state that a reader is in
+abbrev pub state_at : Stage → Reader → State
+state_at stage.Wants r = Want (stack_of r)
+state_at (stage.Has a) r = Have (stack_of r) a
+state_at stage.AfterBrace r = Brace (stack_of r)
+state_at (stage.WantsLabel n) r = Label (levels_over r (before_last n r.fields)) (last_of n r.fields)
+state_at (stage.WantsColon n i) r = Colon (levels_over r (before_last n r.fields)) (last_of n r.fields) i
+state_at (stage.WantsTycon es) r = Tycon (stack_of r) es
+
+abbrev pub state_of : Reader → State
+state_of r = state_at r.stage r
+
+-- how many braces are open of which no field is read
+abbrev pub braces_of : Stage → ℕ
+braces_of stage.Wants = 0
+braces_of (stage.Has a) = 0
+braces_of stage.AfterBrace = 1
+braces_of (stage.WantsLabel n) = 1
+braces_of (stage.WantsColon n i) = 1
+braces_of (stage.WantsTycon es) = 0
+
+-- the state after a token, where it can stand there
+abbrev pub taken : {S : Type 0} → Bool → S → Option S
+taken true st = Some st
+taken false st = None
 
 -- the state before a type
 abbrev pub start : State
@@ -86,11 +143,11 @@ with_side k e = stack k.outer (record { sides = k.level.sides ++ tuple_of k.leve
 
 -- the levels after a left parenthesis
 unfoldable pub inside : Stack → Stack
-inside k = stack (opened.Parens k.level [] ∷ k.outer) fresh
+inside k = stack (Parens k.level [] ∷ k.outer) fresh
 
 -- the levels after a label and its colon
 unfoldable pub inside_field : Stack → List FieldExp → ℕ → Stack
-inside_field k fs i = stack (opened.Braces k.level fs i ∷ k.outer) fresh
+inside_field k fs i = stack (Braces k.level fs i ∷ k.outer) fresh
 
 -- the level as a type
 unfoldable pub whole : Level → TyExp → TyExp
@@ -99,8 +156,8 @@ whole l e = arrows_of l.sides (tuple_of l.parts e)
 -- the state after a comma
 unfoldable pub comma : List Opened → TyExp → Option State
 comma [] e = None
-comma (opened.Parens l es ∷ ls) e = Some (Want (stack (opened.Parens l (es ++ e ∷ []) ∷ ls) fresh))
-comma (opened.Braces l fs i ∷ ls) e = Some (Label (stack ls l) (fs ++ field i e ∷ []))
+comma (Parens l es ∷ ls) e = Some (Want (stack (Parens l (es ++ e ∷ []) ∷ ls) fresh))
+comma (Braces l fs i ∷ ls) e = Some (Label (stack ls l) (fs ++ field i e ∷ []))
 
 -- the state after the parentheses around types, the last of them apart
 unfoldable pub enclosed : Stack → List TyExp → TyExp → State
@@ -109,12 +166,12 @@ enclosed k es e = Tycon k (es ++ e ∷ [])
 
 -- the state after a right parenthesis
 unfoldable pub right_paren : List Opened → TyExp → Option State
-right_paren (opened.Parens l es ∷ ls) e = Some (enclosed (stack ls l) es e)
+right_paren (Parens l es ∷ ls) e = Some (enclosed (stack ls l) es e)
 right_paren _ e = None
 
 -- the state after a right brace
 unfoldable pub right_brace : List Opened → TyExp → Option State
-right_brace (opened.Braces l fs i ∷ ls) e = Some (Have (stack ls l) (operand.Alone (ty.Fields (fs ++ field i e ∷ []))))
+right_brace (Braces l fs i ∷ ls) e = Some (Have (stack ls l) (operand.Alone (ty.Fields (fs ++ field i e ∷ []))))
 right_brace _ e = None
 
 -- the state after a token that begins an operand and is no constructor

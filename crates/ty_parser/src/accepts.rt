@@ -6,65 +6,68 @@ ghost use Rattle.ty_parser.specs.declared.reader.Operand.{Operand};
 ghost use Rattle.ty_parser.specs.declared.tree.FieldExp.{FieldExp};
 ghost use Rattle.ty_parser.specs.declared.tree.TyExp.{TyExp};
 
-use crate::reader::{Held, Opened};
+use crate::reader::{Opening, Reader};
 use crate::sort::Sort;
 use sig_base::Word;
 
-// Whether a comma can stand behind an operand.
-fn is_nested(held: &Held) -> bool
-    ensures { (ty : TyExp) → result ≡ is_some (machine.comma (stack_of held.now).outer ty) }
-{
-    !held.around.is_empty()
-}
-
-// Whether a right parenthesis can stand behind an operand.
-fn in_parens(held: &Held) -> bool
-    ensures { (ty : TyExp) → result ≡ is_some (machine.right_paren (stack_of held.now).outer ty) }
-{
-    match held.around.as_slice().last() {
-        None => false,
-        Some(opened) => match opened {
-            Opened::Parens(_, _) => true,
-            Opened::Braces(_, _, _) => false,
-        },
+impl Reader {
+    // Whether a comma can stand behind an operand.
+    fn is_nested(&self) -> bool
+        ensures { (ty : TyExp) → result ≡ is_some (machine.comma (stack_of self.now).outer ty) }
+    {
+        !self.around.is_empty()
     }
-}
 
-// Whether a right brace can stand behind an operand.
-fn in_braces(held: &Held) -> bool
-    ensures { (ty : TyExp) → result ≡ is_some (machine.right_brace (stack_of held.now).outer ty) }
-{
-    match held.around.as_slice().last() {
-        None => false,
-        Some(opened) => match opened {
-            Opened::Parens(_, _) => false,
-            Opened::Braces(_, _, _) => true,
-        },
+    // Whether a right parenthesis can stand behind an operand.
+    fn in_parens(&self) -> bool
+        ensures { (ty : TyExp) → result ≡ is_some (machine.right_paren (stack_of self.now).outer ty) }
+    {
+        match self.around.as_slice().last() {
+            None => false,
+            Some(opening) => match opening {
+                Opening::Parens(_, _) => true,
+                Opening::Braces(_, _, _) => false,
+            },
+        }
     }
-}
 
-#[tactic(auto, unfolding(crate::specs::Machine::leave))]
-fn can_leave(held: &Held, sort: Sort) -> bool
-    ensures { (ty : TyExp) → result ≡ is_some (machine.leave (stack_of held.now) ty sort) }
-{
-    match sort {
-        Sort::Star => true,
-        Sort::Reserved(Word::KwArrow) => true,
-        Sort::Reserved(Word::KwComma) => is_nested(held),
-        Sort::Reserved(Word::KwRParen) => in_parens(held),
-        Sort::Reserved(Word::KwRBrace) => in_braces(held),
-        _ => false,
+    // Whether a right brace can stand behind an operand.
+    fn in_braces(&self) -> bool
+        ensures { (ty : TyExp) → result ≡ is_some (machine.right_brace (stack_of self.now).outer ty) }
+    {
+        match self.around.as_slice().last() {
+            None => false,
+            Some(opening) => match opening {
+                Opening::Parens(_, _) => false,
+                Opening::Braces(_, _, _) => true,
+            },
+        }
     }
-}
 
-#[tactic(auto, unfolding(crate::specs::Machine::have))]
-pub fn can_have(held: &Held, sort: Sort) -> bool
-    ensures { (a : Operand) (place : ℕ) → result ≡ is_some (machine.have (stack_of held.now) a place sort) }
-{
-    if sort.is_long_tycon() {
-        true
-    } else {
-        can_leave(held, sort)
+    #[tactic(auto, unfolding(crate::specs::Machine::leave))]
+    fn can_leave(&self, sort: Sort) -> bool
+        ensures { (ty : TyExp) → result ≡ is_some (machine.leave (stack_of self.now) ty sort) }
+    {
+        match sort {
+            Sort::Star => true,
+            Sort::Reserved(Word::KwArrow) => true,
+            Sort::Reserved(Word::KwComma) => self.is_nested(),
+            Sort::Reserved(Word::KwRParen) => self.in_parens(),
+            Sort::Reserved(Word::KwRBrace) => self.in_braces(),
+            _ => false,
+        }
+    }
+
+    // Whether a token of this sort can stand behind an operand.
+    #[tactic(auto, unfolding(crate::specs::Machine::have))]
+    pub fn can_have(&self, sort: Sort) -> bool
+        ensures { (a : Operand) (place : ℕ) → result ≡ is_some (machine.have (stack_of self.now) a place sort) }
+    {
+        if sort.is_long_tycon() {
+            true
+        } else {
+            self.can_leave(sort)
+        }
     }
 }
 

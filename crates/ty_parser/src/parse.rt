@@ -111,26 +111,25 @@ fn read_part(
     'tokens: while (place as usize) < tokens.len() {
         let sort = sort_of(bytes, tokens[place as usize]);
         if !reader.accepts(sort) {
-            return ended(reader, at, place);
+            return ended(&mut reader, at, place);
         }
-        let further = match reader.next(alloc, place, sort)? {
-            None => return Err(ParseRefusal::Syntax(place)),
-            Some(further) => further,
-        };
-        if depth + further.depth() > MOST_OPEN {
+        let can = reader.next(alloc, place, sort)?;
+        if !can {
+            return Err(ParseRefusal::Syntax(place));
+        }
+        if depth + reader.depth() > MOST_OPEN {
             return Err(ParseRefusal::TooDeep(place));
         }
-        reader = further;
         place += 1;
     }
-    ended(reader, at, place)
+    ended(&mut reader, at, place)
 }
 
 // What reading gives where no more tokens are taken.
-fn ended(reader: Reader, first: u32, next: u32) -> Result<TypePart, ParseRefusal>
-    ensures tree { IfOk result (λ part. machine.finish (state_of reader) ≡ Some part.ty.ty) }
+fn ended(reader: &mut Reader, first: u32, next: u32) -> Result<TypePart, ParseRefusal>
+    ensures tree { IfOk result (λ part. machine.finish (state_of reader.old) ≡ Some part.ty.ty) }
     ensures places { IfOk result (λ part. (part.ty.first ≡ first) × (part.next ≡ next)) }
-    ensures refusal { IfErr result (λ refusal. (refusal ≡ NoMemory) ⊎ ((refusal ≡ Syntax next) × (machine.finish (state_of reader) ≡ None))) }
+    ensures refusal { IfErr result (λ refusal. (refusal ≡ NoMemory) ⊎ ((refusal ≡ Syntax next) × (machine.finish (state_of reader.old) ≡ None))) }
 {
     match reader.finish()? {
         None => Err(ParseRefusal::Syntax(next)),

@@ -1,11 +1,11 @@
-// What each state of a reader becomes by a token.
-ghost use Rattle.std.specs.Prelude.{◌≡◌, [], ◌∷◌, IfOk};
-ghost use Rattle.std.specs.Option.{option_map};
+// What each stage of a reader becomes by a token.
+ghost use Rattle.std.specs.Prelude.{◌≡◌, ◌+◌, [], ◌∷◌, IfOk, OnOk, reverse};
 ghost use Rattle.ty_parser.specs.Machine as machine;
-ghost use Rattle.ty_parser.specs.Machine.{state_of, stack_of, tree_of};
+ghost use Rattle.ty_parser.specs.Machine.{last_of, before_last, level_of, before_level, levels_of, levels_over, opened_of, state_of, stack_of, tree_of, taken};
 
-use crate::reader::{Held, Level, Opened, Operand, Reader};
+use crate::reader::{LevelSize, Opening, Operand, Reader, Stage};
 use crate::sort::Sort;
+use crate::stack::{Stack, one_more};
 use crate::tree::{FieldExp, TyExp};
 use sig_base::{List, NoMemory, Word};
 use std::alloc::Global;
@@ -13,18 +13,15 @@ use std::alloc::Global;
 fn one<T: Drop>(alloc: Global, item: T) -> Result<List<T>, NoMemory>
     ensures { IfOk result (λ all. all ≡ item ∷ []) }
 {
-    let mut all = List::new(alloc);
+    let mut all = Vec::with_capacity(alloc, 1)?;
     all.push(item)?;
-    Ok(all)
+    Ok(List::from_vec(all))
 }
 
-pub fn fresh(alloc: Global) -> Level
-    ensures { result ≡ machine.fresh }
+pub fn fresh() -> LevelSize
+    ensures { result ≡ record { sides = 0; parts = 0 } }
 {
-    Level {
-        sides: List::new(alloc),
-        parts: List::new(alloc),
-    }
+    LevelSize { sides: 0, parts: 0 }
 }
 
 pub fn tree(operand: Operand) -> TyExp
@@ -49,279 +46,286 @@ fn with_constructor(alloc: Global, operand: Operand, place: u32) -> Result<Opera
     }
 }
 
-fn tuple_of(mut parts: List<TyExp>, last: TyExp) -> Result<TyExp, NoMemory>
-    ensures { IfOk result (λ e. e ≡ machine.tuple_of parts last) }
+// The last so many types, and one more, as a tuple: they are taken off.
+fn tuple(types: &mut Stack<TyExp>, count: usize, last: TyExp) -> Result<TyExp, NoMemory>
+    ensures ty { IfOk result (λ ty. ty ≡ machine.tuple_of (last_of count types.old) last) }
+    ensures rest { OnOk result (types.new ≡ before_last count types.old) }
 {
-    if parts.is_empty() {
+    if types.has_none(count) {
         return Ok(last);
     }
-    parts.push(last)?;
+    types.push(last)?;
+    let parts = types.take_last(one_more(count)?)?;
     Ok(TyExp::Tuple(parts))
 }
 
-fn arrows_of(mut sides: List<TyExp>, last: TyExp) -> Result<TyExp, NoMemory>
-    ensures { IfOk result (λ e. e ≡ machine.arrows_of sides last) }
+// The last so many types, and one more, as a function type: they are taken off.
+fn arrows(types: &mut Stack<TyExp>, count: usize, last: TyExp) -> Result<TyExp, NoMemory>
+    ensures ty { IfOk result (λ ty. ty ≡ machine.arrows_of (last_of count types.old) last) }
+    ensures rest { OnOk result (types.new ≡ before_last count types.old) }
 {
-    if sides.is_empty() {
+    if types.has_none(count) {
         return Ok(last);
     }
-    sides.push(last)?;
+    types.push(last)?;
+    let sides = types.take_last(one_more(count)?)?;
     Ok(TyExp::Arrows(sides))
 }
 
+// A level as one type, with its last operand: it is taken off.
 #[tactic(auto, unfolding(crate::specs::Machine::whole))]
-pub fn whole(level: Level, last: TyExp) -> Result<TyExp, NoMemory>
-    ensures { IfOk result (λ e. e ≡ machine.whole level last) }
+pub fn whole(types: &mut Stack<TyExp>, level: LevelSize, last: TyExp) -> Result<TyExp, NoMemory>
+    ensures ty { IfOk result (λ ty. ty ≡ machine.whole (level_of level types.old) last) }
+    ensures rest { OnOk result (types.new ≡ before_level level types.old) }
 {
-    let Level { sides, parts } = level;
-    arrows_of(sides, tuple_of(parts, last)?)
+    let last = tuple(types, level.parts, last)?;
+    arrows(types, level.sides, last)
 }
 
-#[tactic(auto, unfolding(crate::specs::Machine::with_part))]
-fn with_part(held: Held, part: TyExp) -> Result<Held, NoMemory>
-    ensures { IfOk result (λ h. stack_of h ≡ machine.with_part (stack_of held) part) }
-{
-    let Held { around, mut level } = held;
-    level.parts.push(part)?;
-    Ok(Held { around, level })
-}
+impl Reader {
+    fn with_part(&mut self, part: TyExp) -> Result<(), NoMemory>
+        ensures { OnOk result (state_of self.new ≡ machine.Want (machine.with_part (stack_of self.old) part)) }
+    {
+        self.types.push(part)?;
+        let parts = one_more(self.level.parts)?;
+        self.level.parts = parts;
+        self.stage = Stage::Wants;
+        Ok(())
+    }
 
-#[tactic(auto, unfolding(crate::specs::Machine::with_side))]
-fn with_side(alloc: Global, held: Held, part: TyExp) -> Result<Held, NoMemory>
-    ensures { IfOk result (λ h. stack_of h ≡ machine.with_side (stack_of held) part) }
-{
-    let Held { around, level } = held;
-    let Level { mut sides, parts } = level;
-    sides.push(tuple_of(parts, part)?)?;
-    Ok(Held {
-        around,
-        level: Level {
-            sides,
-            parts: List::new(alloc),
-        },
-    })
-}
+    fn with_side(&mut self, part: TyExp) -> Result<(), NoMemory>
+        ensures { OnOk result (state_of self.new ≡ machine.Want (machine.with_side (stack_of self.old) part)) }
+    {
+        let side = tuple(&mut self.types, self.level.parts, part)?;
+        self.types.push(side)?;
+        let sides = one_more(self.level.sides)?;
+        self.level.sides = sides;
+        self.level.parts = 0;
+        self.stage = Stage::Wants;
+        Ok(())
+    }
 
-#[tactic(auto, unfolding(crate::specs::Machine::inside))]
-fn inside(alloc: Global, held: Held) -> Result<Held, NoMemory>
-    ensures { IfOk result (λ h. stack_of h ≡ machine.inside (stack_of held)) }
-{
-    let Held { mut around, level } = held;
-    around.push(Opened::Parens(level, List::new(alloc)))?;
-    Ok(Held {
-        around,
-        level: fresh(alloc),
-    })
-}
+    // Begins a level inside of what is opened.
+    fn open(&mut self, opening: Opening) -> Result<(), NoMemory>
+        ensures { OnOk result (state_of self.new
+            ≡ machine.Want (machine.stack (opened_of (opening ∷ reverse self.old.around) self.old.types self.old.fields) machine.fresh)) }
+    {
+        self.around.push(opening)?;
+        self.level = fresh();
+        self.stage = Stage::Wants;
+        Ok(())
+    }
 
-#[tactic(auto, unfolding(crate::specs::Machine::inside_field))]
-fn inside_field(
-    alloc: Global,
-    held: Held,
-    fields: List<FieldExp>,
-    label: u32,
-) -> Result<Held, NoMemory>
-    ensures { IfOk result (λ h. stack_of h ≡ machine.inside_field (stack_of held) fields label) }
-{
-    let Held { mut around, level } = held;
-    around.push(Opened::Braces(level, fields, label))?;
-    Ok(Held {
-        around,
-        level: fresh(alloc),
-    })
-}
+    fn inside(&mut self) -> Result<(), NoMemory>
+        ensures { OnOk result (state_of self.new ≡ machine.Want (machine.inside (stack_of self.old))) }
+    {
+        self.open(Opening::Parens(self.level, 0))
+    }
 
-fn comma(alloc: Global, held: Held, last: TyExp) -> Result<Option<Reader>, NoMemory>
-    ensures { IfOk result (λ o. option_map state_of o
-        ≡ machine.comma (stack_of held).outer (machine.whole held.level last)) }
-{
-    let Held { mut around, level } = held;
-    match around.pop() {
-        None => Ok(None),
-        Some(Opened::Parens(outer, mut arguments)) => {
-            arguments.push(whole(level, last)?)?;
-            around.push(Opened::Parens(outer, arguments))?;
-            let level = fresh(alloc);
-            Ok(Some(Reader::Wants(Held { around, level })))
-        }
-        Some(Opened::Braces(outer, mut fields, label)) => {
-            let ty = whole(level, last)?;
-            fields.push(FieldExp { label, ty })?;
-            let held = Held {
-                around,
-                level: outer,
-            };
-            Ok(Some(Reader::WantsLabel(held, fields)))
+    fn comma(&mut self, last: TyExp) -> Result<bool, NoMemory>
+        ensures { IfOk result (λ can. taken can (state_of self.new)
+            ≡ machine.comma (stack_of self.old).outer (machine.whole (stack_of self.old).level last)) }
+    {
+        match self.around.pop() {
+            None => Ok(false),
+            Some(Opening::Parens(outer, count)) => {
+                let ty = whole(&mut self.types, self.level, last)?;
+                self.types.push(ty)?;
+                self.open(Opening::Parens(outer, one_more(count)?))?;
+                Ok(true)
+            }
+            Some(Opening::Braces(outer, count, label)) => {
+                let ty = whole(&mut self.types, self.level, last)?;
+                self.fields.push(FieldExp { label, ty })?;
+                self.level = outer;
+                self.stage = Stage::WantsLabel(one_more(count)?);
+                Ok(true)
+            }
         }
     }
-}
 
-#[tactic(auto, unfolding(crate::specs::Machine::enclosed))]
-fn enclosed(held: Held, mut arguments: List<TyExp>, last: TyExp) -> Result<Reader, NoMemory>
-    ensures { IfOk result (λ r. state_of r ≡ machine.enclosed (stack_of held) arguments last) }
-{
-    if arguments.is_empty() {
-        return Ok(Reader::Has(held, Operand::Alone(last)));
-    }
-    arguments.push(last)?;
-    Ok(Reader::WantsTycon(held, arguments))
-}
-
-fn right_paren(held: Held, last: TyExp) -> Result<Option<Reader>, NoMemory>
-    ensures { IfOk result (λ o. option_map state_of o
-        ≡ machine.right_paren (stack_of held).outer (machine.whole held.level last)) }
-{
-    let Held { mut around, level } = held;
-    match around.pop() {
-        None => Ok(None),
-        Some(Opened::Parens(outer, arguments)) => {
-            let ty = whole(level, last)?;
-            let held = Held {
-                around,
-                level: outer,
-            };
-            Ok(Some(enclosed(held, arguments, ty)?))
+    // What comes of the last so many types in parentheses, and one more.
+    fn enclosed(&mut self, count: usize, last: TyExp) -> Result<(), NoMemory>
+        ensures { OnOk result (state_of self.new ≡ machine.enclosed
+            (levels_of self.old.around self.old.level (before_last count self.old.types) self.old.fields) (last_of count self.old.types) last) }
+    {
+        if self.types.has_none(count) {
+            self.stage = Stage::Has(Operand::Alone(last));
+            return Ok(());
         }
-        Some(Opened::Braces(_, _, _)) => Ok(None),
+        self.types.push(last)?;
+        let arguments = self.types.take_last(one_more(count)?)?;
+        self.stage = Stage::WantsTycon(arguments);
+        Ok(())
     }
-}
 
-fn right_brace(held: Held, last: TyExp) -> Result<Option<Reader>, NoMemory>
-    ensures { IfOk result (λ o. option_map state_of o
-        ≡ machine.right_brace (stack_of held).outer (machine.whole held.level last)) }
-{
-    let Held { mut around, level } = held;
-    match around.pop() {
-        None => Ok(None),
-        Some(Opened::Parens(_, _)) => Ok(None),
-        Some(Opened::Braces(outer, mut fields, label)) => {
-            let ty = whole(level, last)?;
-            fields.push(FieldExp { label, ty })?;
-            let held = Held {
-                around,
-                level: outer,
-            };
-            Ok(Some(Reader::Has(held, Operand::Alone(TyExp::Fields(fields)))))
+    fn right_paren(&mut self, last: TyExp) -> Result<bool, NoMemory>
+        ensures { IfOk result (λ can. taken can (state_of self.new)
+            ≡ machine.right_paren (stack_of self.old).outer (machine.whole (stack_of self.old).level last)) }
+    {
+        match self.around.pop() {
+            None => Ok(false),
+            Some(Opening::Parens(outer, count)) => {
+                let ty = whole(&mut self.types, self.level, last)?;
+                self.level = outer;
+                self.enclosed(count, ty)?;
+                Ok(true)
+            }
+            Some(Opening::Braces(_, _, _)) => Ok(false),
         }
     }
-}
 
-#[tactic(auto, unfolding(crate::specs::Machine::begin))]
-fn begin(alloc: Global, held: Held, place: u32, sort: Sort) -> Result<Option<Reader>, NoMemory>
-    ensures { IfOk result (λ o. option_map state_of o ≡ machine.begin (stack_of held) place sort) }
-{
-    match sort {
-        Sort::Variable => Ok(Some(Reader::Has(held, Operand::Alone(TyExp::Var(place))))),
-        Sort::Reserved(Word::KwLParen) => Ok(Some(Reader::Wants(inside(alloc, held)?))),
-        Sort::Reserved(Word::KwLBrace) => Ok(Some(Reader::AfterBrace(held))),
-        _ => Ok(None),
-    }
-}
-
-#[tactic(auto, unfolding(crate::specs::Machine::want))]
-pub fn want(alloc: Global, held: Held, place: u32, sort: Sort) -> Result<Option<Reader>, NoMemory>
-    ensures { IfOk result (λ o. option_map state_of o ≡ machine.want (stack_of held) place sort) }
-{
-    if sort.is_long_tycon() {
-        let operand = Operand::Applied(List::new(alloc), one(alloc, place)?);
-        Ok(Some(Reader::Has(held, operand)))
-    } else {
-        begin(alloc, held, place, sort)
-    }
-}
-
-#[tactic(auto, unfolding(crate::specs::Machine::leave))]
-fn leave(alloc: Global, held: Held, last: TyExp, sort: Sort) -> Result<Option<Reader>, NoMemory>
-    ensures { IfOk result (λ o. option_map state_of o ≡ machine.leave (stack_of held) last sort) }
-{
-    match sort {
-        Sort::Star => Ok(Some(Reader::Wants(with_part(held, last)?))),
-        Sort::Reserved(Word::KwArrow) => Ok(Some(Reader::Wants(with_side(alloc, held, last)?))),
-        Sort::Reserved(Word::KwComma) => comma(alloc, held, last),
-        Sort::Reserved(Word::KwRParen) => right_paren(held, last),
-        Sort::Reserved(Word::KwRBrace) => right_brace(held, last),
-        _ => Ok(None),
-    }
-}
-
-#[tactic(auto, unfolding(crate::specs::Machine::have))]
-pub fn have(
-    alloc: Global,
-    held: Held,
-    operand: Operand,
-    place: u32,
-    sort: Sort,
-) -> Result<Option<Reader>, NoMemory>
-    ensures { IfOk result (λ o. option_map state_of o ≡ machine.have (stack_of held) operand place sort) }
-{
-    if sort.is_long_tycon() {
-        let operand = with_constructor(alloc, operand, place)?;
-        Ok(Some(Reader::Has(held, operand)))
-    } else {
-        leave(alloc, held, tree(operand), sort)
-    }
-}
-
-#[tactic(auto, unfolding(crate::specs::Machine::brace, crate::specs::Machine::no_fields))]
-pub fn brace(alloc: Global, held: Held, place: u32, sort: Sort) -> Option<Reader>
-    ensures { option_map state_of result ≡ machine.brace (stack_of held) place sort }
-{
-    if sort.is_label() {
-        return Some(Reader::WantsColon(held, List::new(alloc), place));
-    }
-    match sort {
-        Sort::Reserved(Word::KwRBrace) => {
-            let record = TyExp::Fields(List::new(alloc));
-            Some(Reader::Has(held, Operand::Alone(record)))
+    fn right_brace(&mut self, last: TyExp) -> Result<bool, NoMemory>
+        ensures { IfOk result (λ can. taken can (state_of self.new)
+            ≡ machine.right_brace (stack_of self.old).outer (machine.whole (stack_of self.old).level last)) }
+    {
+        match self.around.pop() {
+            None => Ok(false),
+            Some(Opening::Parens(_, _)) => Ok(false),
+            Some(Opening::Braces(outer, count, label)) => {
+                let ty = whole(&mut self.types, self.level, last)?;
+                self.fields.push(FieldExp { label, ty })?;
+                let fields = self.fields.take_last(one_more(count)?)?;
+                self.level = outer;
+                self.stage = Stage::Has(Operand::Alone(TyExp::Fields(fields)));
+                Ok(true)
+            }
         }
-        _ => None,
     }
-}
 
-#[tactic(auto, unfolding(crate::specs::Machine::label))]
-pub fn label(held: Held, fields: List<FieldExp>, place: u32, sort: Sort) -> Option<Reader>
-    ensures { option_map state_of result ≡ machine.label (stack_of held) fields place sort }
-{
-    if sort.is_label() {
-        Some(Reader::WantsColon(held, fields, place))
-    } else {
-        None
-    }
-}
-
-#[tactic(auto, unfolding(crate::specs::Machine::colon))]
-pub fn colon(
-    alloc: Global,
-    held: Held,
-    fields: List<FieldExp>,
-    label: u32,
-    sort: Sort,
-) -> Result<Option<Reader>, NoMemory>
-    ensures { IfOk result (λ o. option_map state_of o ≡ machine.colon (stack_of held) fields label sort) }
-{
-    match sort {
-        Sort::Reserved(Word::KwColon) => {
-            let held = inside_field(alloc, held, fields, label)?;
-            Ok(Some(Reader::Wants(held)))
+    #[tactic(auto, unfolding(crate::specs::Machine::begin))]
+    fn begin(&mut self, place: u32, sort: Sort) -> Result<bool, NoMemory>
+        ensures { IfOk result (λ can. taken can (state_of self.new) ≡ machine.begin (stack_of self.old) place sort) }
+    {
+        match sort {
+            Sort::Variable => {
+                self.stage = Stage::Has(Operand::Alone(TyExp::Var(place)));
+                Ok(true)
+            }
+            Sort::Reserved(Word::KwLParen) => {
+                self.inside()?;
+                Ok(true)
+            }
+            Sort::Reserved(Word::KwLBrace) => {
+                self.stage = Stage::AfterBrace;
+                Ok(true)
+            }
+            _ => Ok(false),
         }
-        _ => Ok(None),
     }
-}
 
-#[tactic(auto, unfolding(crate::specs::Machine::tycon))]
-pub fn tycon(
-    alloc: Global,
-    held: Held,
-    arguments: List<TyExp>,
-    place: u32,
-    sort: Sort,
-) -> Result<Option<Reader>, NoMemory>
-    ensures { IfOk result (λ o. option_map state_of o ≡ machine.tycon (stack_of held) arguments place sort) }
-{
-    if sort.is_long_tycon() {
-        let operand = Operand::Applied(arguments, one(alloc, place)?);
-        Ok(Some(Reader::Has(held, operand)))
-    } else {
-        Ok(None)
+    #[tactic(auto, unfolding(crate::specs::Machine::want))]
+    pub fn want(&mut self, alloc: Global, place: u32, sort: Sort) -> Result<bool, NoMemory>
+        ensures { IfOk result (λ can. taken can (state_of self.new) ≡ machine.want (stack_of self.old) place sort) }
+    {
+        if sort.is_long_tycon() {
+            let operand = Operand::Applied(List::new(alloc), one(alloc, place)?);
+            self.stage = Stage::Has(operand);
+            Ok(true)
+        } else {
+            self.begin(place, sort)
+        }
+    }
+
+    #[tactic(auto, unfolding(crate::specs::Machine::leave))]
+    fn leave(&mut self, last: TyExp, sort: Sort) -> Result<bool, NoMemory>
+        ensures { IfOk result (λ can. taken can (state_of self.new) ≡ machine.leave (stack_of self.old) last sort) }
+    {
+        match sort {
+            Sort::Star => {
+                self.with_part(last)?;
+                Ok(true)
+            }
+            Sort::Reserved(Word::KwArrow) => {
+                self.with_side(last)?;
+                Ok(true)
+            }
+            Sort::Reserved(Word::KwComma) => self.comma(last),
+            Sort::Reserved(Word::KwRParen) => self.right_paren(last),
+            Sort::Reserved(Word::KwRBrace) => self.right_brace(last),
+            _ => Ok(false),
+        }
+    }
+
+    #[tactic(auto, unfolding(crate::specs::Machine::have))]
+    pub fn have(
+        &mut self,
+        alloc: Global,
+        operand: Operand,
+        place: u32,
+        sort: Sort,
+    ) -> Result<bool, NoMemory>
+        ensures { IfOk result (λ can. taken can (state_of self.new) ≡ machine.have (stack_of self.old) operand place sort) }
+    {
+        if sort.is_long_tycon() {
+            self.stage = Stage::Has(with_constructor(alloc, operand, place)?);
+            Ok(true)
+        } else {
+            self.leave(tree(operand), sort)
+        }
+    }
+
+    #[tactic(auto, unfolding(crate::specs::Machine::brace, crate::specs::Machine::no_fields))]
+    pub fn brace(&mut self, alloc: Global, place: u32, sort: Sort) -> bool
+        ensures { taken result (state_of self.new) ≡ machine.brace (stack_of self.old) place sort }
+    {
+        if sort.is_label() {
+            self.stage = Stage::WantsColon(0, place);
+            return true;
+        }
+        match sort {
+            Sort::Reserved(Word::KwRBrace) => {
+                let record = TyExp::Fields(List::new(alloc));
+                self.stage = Stage::Has(Operand::Alone(record));
+                true
+            }
+            _ => false,
+        }
+    }
+
+    #[tactic(auto, unfolding(crate::specs::Machine::label))]
+    pub fn label(&mut self, count: usize, place: u32, sort: Sort) -> bool
+        ensures { taken result (state_of self.new)
+            ≡ machine.label (levels_over self.old (before_last count self.old.fields)) (last_of count self.old.fields) place sort }
+    {
+        if sort.is_label() {
+            self.stage = Stage::WantsColon(count, place);
+            true
+        } else {
+            false
+        }
+    }
+
+    #[tactic(auto, unfolding(crate::specs::Machine::colon, crate::specs::Machine::inside_field))]
+    pub fn colon(&mut self, count: usize, label: u32, sort: Sort) -> Result<bool, NoMemory>
+        ensures { IfOk result (λ can. taken can (state_of self.new)
+            ≡ machine.colon (levels_over self.old (before_last count self.old.fields)) (last_of count self.old.fields) label sort) }
+    {
+        match sort {
+            Sort::Reserved(Word::KwColon) => {
+                self.open(Opening::Braces(self.level, count, label))?;
+                Ok(true)
+            }
+            _ => Ok(false),
+        }
+    }
+
+    #[tactic(auto, unfolding(crate::specs::Machine::tycon))]
+    pub fn tycon(
+        &mut self,
+        alloc: Global,
+        arguments: List<TyExp>,
+        place: u32,
+        sort: Sort,
+    ) -> Result<bool, NoMemory>
+        ensures { IfOk result (λ can. taken can (state_of self.new) ≡ machine.tycon (stack_of self.old) arguments place sort) }
+    {
+        if sort.is_long_tycon() {
+            let operand = Operand::Applied(arguments, one(alloc, place)?);
+            self.stage = Stage::Has(operand);
+            Ok(true)
+        } else {
+            Ok(false)
+        }
     }
 }

@@ -1,17 +1,18 @@
-use Rattle.std.proofs.Common.{sym, ap, refl, ◌∙◌}
-use Rattle.std.specs.Option.{option_map}
-use Rattle.sig_parser.specs.Machine.{state_of}
-use Rattle.sig_parser.proofs.Reading.{step_low, shallow_next, shallow_refused}
+use Rattle.std.proofs.Common.{sym, ap, refl, ◌∙◌, arith}
+use Rattle.sig_parser.proofs.Reading.{step_none, step_some, step_too_deep, step_low}
 use Rattle.sig_parser.proofs.parse.step.Goals as goal
 
-pub returns-in-None-clause-refusal : goal.returns-in-None-clause-refusal
-returns-in-None-clause-refusal c = (refl, sym c.in_ok-next.ensures.value ∙ ap (option_map state_of) c.in-None.is)
+pub returns-then-not-can-clause-refusal : goal.returns-then-not-can-clause-refusal
+returns-then-not-can-clause-refusal c = (refl, step_none _ _ _ _ _ c.in_ok-can.ensures.value c.if-not-can.true)
 
-pub shallow-requires : goal.shallow-requires
-shallow-requires c = record { low = step_low _ _ _ _ c.requires.low (ap (option_map state_of) (sym c.in-Some.is) ∙ c.in_ok-next.ensures.value) }
+pub depth-requires : goal.depth-requires
+depth-requires c = let low = step_low _ _ _ _ c.requires.low (step_some _ _ _ _ _ c.in_ok-can.ensures.value c.if-not-can.false) in record { small = omega (arith, low) }
 
-pub returns-in-Some-clause-next : goal.returns-in-Some-clause-next
-returns-in-Some-clause-next c = shallow_next _ _ _ c.in-Some.further (ap (option_map state_of) (sym c.in-Some.is) ∙ c.in_ok-next.ensures.value) _ c.shallow.ensures.same
+pub returns-then-depth-gt-MOST_OPEN-clause-refusal : goal.returns-then-depth-gt-MOST_OPEN-clause-refusal
+returns-then-depth-gt-MOST_OPEN-clause-refusal c = step_too_deep _ _ _ _ _ c.in_ok-can.ensures.value c.if-not-can.false (omega (arith, c.if-depth-gt-MOST_OPEN.true, c.depth.ensures.value))
 
-pub returns-in-Some-clause-refusal : goal.returns-in-Some-clause-refusal
-returns-in-Some-clause-refusal c = shallow_refused _ _ _ c.in-Some.further (ap (option_map state_of) (sym c.in-Some.is) ∙ c.in_ok-next.ensures.value) _ c.shallow.ensures.refusal
+pub returns-clause-next : goal.returns-clause-next
+returns-clause-next c = sym (step_some _ _ _ _ _ c.in_ok-can.ensures.value c.if-not-can.false)
+
+pub returns-clause-low : goal.returns-clause-low
+returns-clause-low c = omega (arith, c.if-depth-gt-MOST_OPEN.false, c.depth.ensures.value)

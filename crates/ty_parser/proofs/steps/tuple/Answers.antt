@@ -1,0 +1,15 @@
+use Rattle.std.proofs.Common.{sym, ap, ◌∙◌}
+use Rattle.std.proofs.lemmas.Bool.{false≢true}
+use Rattle.ty_parser.specs.declared.tree.TyExp.TheVariants as ty
+use Rattle.ty_parser.proofs.Stacks.{before_last-all, last_of-more}
+use Rattle.ty_parser.proofs.Pieces.{of_one, of_more}
+use Rattle.ty_parser.proofs.steps.tuple.Goals as goal
+
+pub returns-then-has_none-clause-ty : goal.returns-then-has_none-clause-ty
+returns-then-has_none-clause-ty c = of_one ty.Tuple _ _ (c.has_none.ensures.value.0 c.if-has_none.true)
+
+pub returns-then-has_none-clause-rest : goal.returns-then-has_none-clause-rest
+returns-then-has_none-clause-rest c = sym (before_last-all _ _ (c.has_none.ensures.value.0 c.if-has_none.true))
+
+pub returns-clause-ty : goal.returns-clause-ty
+returns-clause-ty c = ap ty.Tuple (c.in_ok-parts.ensures.taken ∙ last_of-more _ _ _ _ _ c.in_ok-push.ensures.pushed c.in_ok-one_more.ensures.value) ∙ sym (of_more ty.Tuple _ _ (λ none. false≢true (sym c.if-has_none.false ∙ c.has_none.ensures.value.1 none)))

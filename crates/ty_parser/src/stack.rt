@@ -1,0 +1,134 @@
+// A stack of values.
+ghost use Rattle.std.specs.Prelude.{◌≡◌, ◌+◌, [], ◌∷◌, ◌++◌, ◌↔◌, length, IsTrue, IfOk, IfSome, IfNone, OnOk};
+ghost use Rattle.ty_parser.specs.Machine.{last_of, before_last};
+
+use sig_base::{List, NoMemory};
+use std::alloc::Global;
+use std::marker::Model;
+use std::mem;
+
+// So many values are handed over with their memory, and not copied into a list of their size.
+const MANY: usize = 1024;
+
+/// A list of values, of which the last so many can be taken off at once.
+#[derive(Debug, Drop)]
+pub struct Stack<T> {
+    items: Vec<T>,
+}
+
+impl<T> Model for Stack<T> {
+    ghost use Rattle.std.specs.Coded.{coded_list};
+    ghost use Rattle.std.specs.Prelude.{List};
+
+    ghost Value = { List T };
+
+    ghost coded = { coded_list T.code };
+
+    ghost view = { λ stack. stack.items.items };
+}
+
+/// A count of what is held, with one more: while there is memory it passes no bound.
+pub fn one_more(count: usize) -> Result<usize, NoMemory>
+    ensures value { IfOk result (λ more. more ≡ count + 1) }
+{
+    match count.checked_add(1) {
+        None => Err(NoMemory),
+        Some(more) => Ok(more),
+    }
+}
+
+impl<T> Stack<T> {
+    /// The stack of nothing.
+    pub fn new(alloc: Global) -> Stack<T>
+        ensures empty { result ≡ [] }
+    {
+        Stack {
+            items: Vec::new(alloc),
+        }
+    }
+
+    /// The values as a slice.
+    pub fn as_slice(&self) -> &[T]
+        ensures value { result.now ≡ self.now }
+    {
+        self.items.as_slice()
+    }
+
+    /// How many values there are.
+    pub fn len(&self) -> usize
+        ensures value { result ≡ length self.now }
+    {
+        self.items.len()
+    }
+
+    /// Whether there is none.
+    pub fn is_empty(&self) -> bool
+        ensures value { IsTrue result ↔ (self.now ≡ []) }
+    {
+        self.items.is_empty()
+    }
+
+    /// Whether there is none among the last so many.
+    pub fn has_none(&self, count: usize) -> bool
+        ensures value { IsTrue result ↔ (last_of count self.now ≡ []) }
+    {
+        if count == 0 {
+            return true;
+        }
+        self.is_empty()
+    }
+}
+
+impl<T: Drop> Stack<T> {
+    /// Adds a value at the end.
+    pub fn push(&mut self, item: T) -> Result<(), NoMemory>
+        ensures pushed { OnOk result (self.new ≡ self.old ++ item ∷ []) }
+    {
+        match self.items.push(item) {
+            Ok(()) => Ok(()),
+            Err(_) => Err(NoMemory),
+        }
+    }
+
+    /// Takes the last value off; `None` exactly where there is none.
+    pub fn pop(&mut self) -> Option<T>
+        ensures popped { IfSome result (λ x. self.old ≡ self.new ++ x ∷ []) }
+        ensures none { IfNone result ((self.old ≡ []) × (self.new ≡ [])) }
+    {
+        self.items.pop()
+    }
+
+    /// Takes the last so many values off, or all where there are fewer.
+    pub fn take_last(&mut self, count: usize) -> Result<List<T>, NoMemory>
+        ensures taken { IfOk result (λ taken. taken ≡ last_of count self.old) }
+        ensures rest { OnOk result (self.new ≡ before_last count self.old) }
+    {
+        let at = self.items.len().saturating_sub(count);
+        if at == 0 {
+            return self.take_all();
+        }
+        let taken = self.items.split_off(at)?;
+        Ok(List::from_vec(taken))
+    }
+
+    /// Takes all values off, as a list.
+    pub fn take_all(&mut self) -> Result<List<T>, NoMemory>
+        ensures taken { IfOk result (λ taken. taken ≡ self.old) }
+        ensures rest { OnOk result (self.new ≡ []) }
+    {
+        if self.items.len() < MANY {
+            let taken = self.items.split_off(0)?;
+            return Ok(List::from_vec(taken));
+        }
+        let alloc = *self.items.allocator();
+        let taken = mem::replace(&mut self.items, Vec::new(alloc));
+        Ok(List::from_vec(taken))
+    }
+
+    /// Takes all values off.
+    pub fn clear(&mut self)
+        ensures empty { self.new ≡ [] }
+    {
+        self.items.clear();
+    }
+}
