@@ -20,7 +20,7 @@ use Rattle.iso_normal.specs.Pairings as pairing
 use Rattle.iso_normal.specs.Pairings.{PairEach, Pairs, pairs}
 use Rattle.iso_normal.proofs.Distinct.{AreDifferent, IsNone, different}
 use Rattle.iso_normal.proofs.Permutations.{some_injective}
-use Rattle.coord_match.specs.Consistency.{Turns}
+use Rattle.iso_normal.specs.Consistency.{Turns}
 use Rattle.coord_match.specs.Prints.{all_mixed, field_print, mark_number, mixed, print_of, print_step, print_sum, type_print, type_print_step}
 use Rattle.coord_match.specs.Tasks.{Fills, Goal, fill}
 

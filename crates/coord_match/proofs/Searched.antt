@@ -7,7 +7,8 @@ use Rattle.type_core.specs.Coordinates.{arguments_of, head_of}
 use Rattle.type_core.specs.Renaming.{Renaming, renamed}
 use Rattle.iso_normal.proofs.Permutations.{some_injective}
 use Rattle.coord_match.specs.Bindings.{AreMatching, Allows, Bindings, met}
-use Rattle.coord_match.specs.Consistency.{IsNotAfter, Turns, ends, less, same}
+use Rattle.iso_normal.specs.Consistency.{Turns}
+use Rattle.coord_match.specs.LeastPairing.{IsNotAfter, ends, less, same}
 use Rattle.coord_match.specs.Tasks.{Filling, FillingAt, Fills, Goal, HasNone, IsBest, IsFree, filled}
 use Rattle.coord_match.proofs.Meeting.{Narrows, Outcome, met_right, narrowed, refused}
 use Rattle.coord_match.specs.Prints.{mixed, print_of}

@@ -11,7 +11,7 @@ use Rattle.iso_normal.specs.Pairings as pairing
 use Rattle.iso_normal.specs.Pairings.{PairEach, Pairs}
 use Rattle.iso_normal.proofs.Distinct.{AreDifferent, IsNone, different, distinct}
 use Rattle.coord_match.specs.Bindings.{Bindings}
-use Rattle.coord_match.specs.Consistency.{Turns}
+use Rattle.iso_normal.specs.Consistency.{Turns}
 use Rattle.coord_match.specs.Tasks.{AreFree, FillingAt, Goal, HasNone, IsFree, fill, words}
 use Rattle.iso_normal.proofs.TreeParts.{entry_args, entry_place}
 

@@ -16,7 +16,8 @@ use Rattle.iso_normal.specs.Pairings as pairing
 use Rattle.iso_normal.specs.Pairings.{PairEach, Pairs, pairs}
 use Rattle.iso_normal.proofs.TreeParts.{tree_entries}
 use Rattle.coord_match.specs.Bindings.{Allows, Bindings}
-use Rattle.coord_match.specs.Consistency.{IsConsistent, IsLeast, IsNotAfter, Turns, coordinate_variables, variables_among}
+use Rattle.iso_normal.specs.Consistency.{IsConsistent, Turns, coordinate_variables, variables_among}
+use Rattle.coord_match.specs.LeastPairing.{IsLeast, IsNotAfter}
 use Rattle.coord_match.specs.declared.search.Task.{Task}
 use Rattle.coord_match.specs.Names.{HaveOneMark, IsFirst, number_bound, partner, partner_of_number}
 use Rattle.coord_match.specs.Tasks.{AllTurn, Filling, Fills, Goal, HasNone, IsBest, fill, filled, goal_of, goals_of, words}

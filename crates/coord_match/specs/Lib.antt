@@ -1,4 +1,4 @@
-pub mod Consistency
+pub mod LeastPairing
 pub mod Bindings
 pub mod Names
 pub mod Tasks

@@ -7,7 +7,8 @@ use Rattle.type_core.specs.Variables.{occurs, same_variable}
 use Rattle.iso_normal.specs.declared.pair_tree.PairTree.{PairTree}
 use Rattle.iso_normal.specs.PairTrees.{word_of}
 use Rattle.coord_match.specs.Bindings.{Bindings}
-use Rattle.coord_match.specs.Consistency.{IsLeast, variables_among}
+use Rattle.iso_normal.specs.Consistency.{variables_among}
+use Rattle.coord_match.specs.LeastPairing.{IsLeast}
 
 -- a number has one mark: variables of one number are one variable
 abbrev pub HaveOneMark : List VarId → Type 0

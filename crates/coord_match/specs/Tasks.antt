@@ -10,7 +10,8 @@ use Rattle.iso_normal.specs.Pairings.{PairEach}
 use Rattle.iso_normal.specs.Shapes.{nodes_of}
 use Rattle.coord_match.specs.declared.search.Task.{Task}
 use Rattle.coord_match.specs.Bindings.{AreMatching, Allows, Bindings}
-use Rattle.coord_match.specs.Consistency.{IsNotAfter, Turns}
+use Rattle.iso_normal.specs.Consistency.{Turns}
+use Rattle.coord_match.specs.LeastPairing.{IsNotAfter}
 
 -- coordinates that are still to be paired with others, of which some are taken
 pub record Goal : Type 0 where

@@ -3,7 +3,7 @@ ghost use Rattle.std.specs.Prelude.{◌≡◌, ◌≤◌, ◌<◌, ◌++◌, Som
 ghost use Rattle.type_core.specs.Lists.{concatenated};
 ghost use Rattle.type_core.specs.Variables.{field_variables, same_variable, variables};
 ghost use Rattle.coord_match.specs.Bindings as bindings;
-ghost use Rattle.coord_match.specs.Consistency.{coordinate_variables, variables_among};
+ghost use Rattle.iso_normal.specs.Consistency.{coordinate_variables, variables_among};
 ghost use Rattle.coord_match.specs.Names as spec;
 
 use crate::bindings::{Bound, is_same};

@@ -3,7 +3,7 @@ ghost use Rattle.std.specs.Prelude.{◌≡◌, ℕ, ◌<◌, ◌^◌, None, IfOk
 ghost use Rattle.type_core.specs.Renaming.{Renaming};
 ghost use Rattle.iso_normal.specs.declared.pair_tree.PairTree.{PairTree};
 ghost use Rattle.iso_normal.specs.Shapes.{nodes_of};
-ghost use Rattle.coord_match.specs.Consistency.{IsConsistent, variables_among};
+ghost use Rattle.iso_normal.specs.Consistency.{IsConsistent, variables_among};
 ghost use Rattle.coord_match.specs.Names.{HaveOneMark, IsFirst};
 
 use crate::names::{gather_coordinates, names};

@@ -1,7 +1,7 @@
 -- A renaming of the variables of coordinates goes on to a renaming of all variables of the type.
 use Rattle.std.proofs.Common.{◌≡◌, ℕ, ◌+◌, ◌≤◌, ◌||◌, ◌⊎◌, inl, inr, Bool, true, false, if◌then◌else◌, List, [], ◌∷◌, ◌++◌, map, refl, sym, ap, ◌∙◌, subst, arith}
 use Rattle.type_core.specs.declared.coordinate.Coordinate.{Coordinate}
-use Rattle.type_core.specs.declared.coordinate.Coordinate.TheFolds.{fold-Coordinate, fold_out-Coordinate}
+use Rattle.type_core.specs.declared.coordinate.Coordinate.TheFolds.{fold_out-Coordinate}
 use Rattle.type_core.specs.declared.ty.VarId.{VarId}
 use Rattle.type_core.specs.declared.ty.Ty.{Ty}
 use Rattle.type_core.specs.declared.ty.Ty.TheVariants as ty
@@ -14,7 +14,7 @@ use Rattle.type_core.proofs.Renamed.{renamed_alike}
 use Rattle.type_core.proofs.Trees.{EachOf, induct_type, coordinates_var, coordinates_con, coordinates_rec, coordinates_tup, coordinates_arrow, variables_tup, variables_arrow}
 use Rattle.iso_normal.specs.declared.pair_tree.PairTree.{PairTree}
 use Rattle.iso_normal.specs.declared.pair_tree.Entry.{Entry}
-use Rattle.iso_normal.specs.Consistency.{coordinate_variables, variables_step}
+use Rattle.iso_normal.specs.Consistency.{variables_among, variables_step}
 use Rattle.iso_normal.specs.Pairings as pairing
 use Rattle.iso_normal.specs.Pairings.{PairEach, Pairs, pairs}
 use Rattle.iso_normal.proofs.Taking.{arguments_made, head_made}
@@ -38,23 +38,18 @@ within_append all (x ∷ vs) ws p q v e = elim (or_cases (same_variable v x) (oc
 ]
 
 -- the variables of coordinates
-variables_none : coordinate_variables [] ≡ []
-unfolding coordinate_variables
-variables_none = refl
-
-variables_more : (c : Coordinate) (cs : List Coordinate) → coordinate_variables (c ∷ cs) ≡ (coordinate_variables (arguments_of c) ++ variables (head_of c)) ++ coordinate_variables cs
-unfolding coordinate_variables
-variables_more c cs = ap (λ vs. vs ++ concatenated (map (fold-Coordinate (List VarId) variables_step) cs)) (fold_out-Coordinate (List VarId) variables_step c)
+variables_more : (c : Coordinate) (cs : List Coordinate) → variables_among (c ∷ cs) ≡ (variables (head_of c) ++ variables_among (arguments_of c)) ++ variables_among cs
+variables_more c cs = ap (λ vs. vs ++ variables_among cs) (fold_out-Coordinate (List VarId) variables_step c)
 
 module _ (all : List VarId) where
   abbrev IsInside : List Coordinate → Type 0
-  IsInside cs = Within all (coordinate_variables cs)
+  IsInside cs = Within all (variables_among cs)
 
   none_inside : IsInside []
-  none_inside = subst (Within all) (sym variables_none) (λ v e. absurd (cc e))
+  none_inside v e = absurd (cc e)
 
   more_inside : (c : Coordinate) (cs : List Coordinate) → IsInside (arguments_of c) → Within all (variables (head_of c)) → IsInside cs → IsInside (c ∷ cs)
-  more_inside c cs p q others = subst (Within all) (sym (variables_more c cs)) (within_append all _ _ (within_append all _ _ p q) others)
+  more_inside c cs p q others = subst (Within all) (sym (variables_more c cs)) (within_append all _ _ (within_append all _ _ q p) others)
 
   record Inside (c : Coordinate) (cs : List Coordinate) : Type 0 where
     arguments : IsInside (arguments_of c)
@@ -65,9 +60,9 @@ module _ (all : List VarId) where
   parts_inside c cs p =
       let q = subst (Within all) (variables_more c cs) p in
       record {
-        arguments = λ v e. q v (occurs_left v _ _ (occurs_left v _ _ e));
-        head = λ v e. q v (occurs_left v _ _ (occurs_right v (coordinate_variables (arguments_of c)) _ e));
-        others = λ v e. q v (occurs_right v (coordinate_variables (arguments_of c) ++ variables (head_of c)) _ e);
+        arguments = λ v e. q v (occurs_left v _ _ (occurs_right v (variables (head_of c)) _ e));
+        head = λ v e. q v (occurs_left v _ _ (occurs_left v _ _ e));
+        others = λ v e. q v (occurs_right v (variables (head_of c) ++ variables_among (arguments_of c)) _ e);
       }
 
   append_inside : (cs ds : List Coordinate) → IsInside cs → IsInside ds → IsInside (cs ++ ds)
@@ -107,7 +102,7 @@ type_inside = induct_type HasInside
     (λ a b x y all p. let q = subst (Within all) (variables_arrow a b) p in
     subst (IsInside all) (sym (coordinates_arrow a b)) (taking_inside all (coordinates a) (coordinates b) (x all (λ v e. q v (occurs_left v _ _ e))) (y all (λ v e. q v (occurs_right v (variables a) _ e)))))
 
-pub variables_within : (t : Ty) → Within (variables t) (coordinate_variables (coordinates t))
+pub variables_within : (t : Ty) → Within (variables t) (variables_among (coordinates t))
 variables_within t = type_inside t (variables t) (λ v e. e)
 
 -- what a pairing under a renaming owes to the variables of the first list alone

@@ -7,7 +7,7 @@ use Rattle.type_core.specs.declared.ty.Scheme.{Scheme}
 use Rattle.iso_axioms.specs.SchemeEquality.{AreEqualIn}
 use Rattle.iso_axioms.specs.Theory.{IsIsomorphic}
 use Rattle.iso_axioms.proofs.Replaced.{keeps_types, renaming_replaces}
-use Rattle.iso_normal.specs.Consistency.{IsConsistent, coordinate_variables}
+use Rattle.iso_normal.specs.Consistency.{IsConsistent, variables_among}
 use Rattle.iso_normal.specs.declared.pair_tree.PairTree.{PairTree}
 use Rattle.iso_normal.specs.Pairings.{Pairs}
 use Rattle.iso_normal.proofs.Complete.{alike_isomorphic}
@@ -32,7 +32,7 @@ consistent a b e =
 
 pub equal_in_theory : (a b : Scheme) → IsType a.body → IsType b.body → (r : Renaming) (p : PairTree) → IsConsistent r (coordinates a.body) (coordinates b.body) p → AreEqualIn IsIsomorphic a b
 equal_in_theory a b is_a is_b r p c =
-    let vs = coordinate_variables (coordinates a.body) in
+    let vs = variables_among (coordinates a.body) in
     let s : Renaming = extended r vs in
     let turned = pairs_alike r s vs (λ v e. sym (extended_among r vs v e)) c.pairs (λ v e. e) in
     let same = subst (λ cs. Pairs ◌≡◌ cs (coordinates b.body) p) (sym (coordinates_renamed s a.body)) (pairs_renamed s turned) in

@@ -1,5 +1,5 @@
 use Rattle.std.proofs.Common.{◌≡◌, ◌++◌, drop}
-use Rattle.coord_match.specs.Consistency.{variables_among}
+use Rattle.iso_normal.specs.Consistency.{variables_among}
 use Rattle.coord_match.proofs.names.+gather_coordinates.Given as goal
 
 abbrev pub invariant-loop-coordinate : goal.invariant-loop-coordinate

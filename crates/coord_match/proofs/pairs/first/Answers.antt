@@ -1,5 +1,5 @@
 use Rattle.std.proofs.Common.{◌%◌, ◌++◌, Some, false, length, replicate, sym, ap, ap₂, ◌∙◌}
-use Rattle.coord_match.specs.Consistency.{variables_among}
+use Rattle.iso_normal.specs.Consistency.{variables_among}
 use Rattle.coord_match.specs.Names.{number_bound, partner_of_number}
 use Rattle.coord_match.specs.Prints.{print_sum}
 use Rattle.coord_match.proofs.Filling.{none_is_taken}
