@@ -1,0 +1,5 @@
+pub mod Sorts
+pub mod Tokens
+pub mod Types
+pub mod Descriptions
+pub mod Files

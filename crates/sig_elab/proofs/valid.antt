@@ -1,0 +1,17 @@
+pub mod Lists
+pub mod Outcomes
+pub mod Names
+pub mod Renamed
+pub mod Made
+pub mod Fields
+pub mod Found
+pub mod Typed
+pub mod Body
+pub mod Values
+pub mod Tycons
+pub mod InitialValues
+pub mod Replicas
+pub mod Specs
+pub mod Units
+pub mod Files
+pub mod Libraries

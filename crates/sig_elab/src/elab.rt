@@ -1,0 +1,181 @@
+// The elaborator of files.
+ghost use Rattle.std.specs.Prelude.{◌≡◌, IfOk, OnErr};
+ghost use Rattle.sml_lexer.specs.Tokens.{tokens as tokens_of};
+ghost use Rattle.sig_parser.specs.Files.{File};
+ghost use Rattle.ty_parser.specs.Sorts.{sorts_of};
+ghost use Rattle.type_core.specs.ValidLibrary.{IsValidLibrary};
+ghost use Rattle.sig_elab.specs.Elaborators.{GivesBasis, basis_of};
+ghost use Rattle.sig_elab.specs.Files.{elaborated};
+ghost use Rattle.sig_elab.specs.Library.{empty_basis, library};
+ghost use Rattle.sig_elab.specs.Outcome.{Agrees};
+ghost use Rattle.sig_elab.specs.Soundness.{IsSound};
+ghost use Rattle.sig_elab.specs.Sources.{AreWithin, texts_of};
+ghost use Rattle.sig_elab.specs.Totals.{AreTotals};
+
+use crate::declarations::declare_all;
+use crate::draft::Draft;
+use crate::initial::initial_environment;
+use crate::listing::{all_members, all_names, all_tycons, all_units};
+use crate::progress::Progress;
+use crate::refusal::ElabRefusal;
+use crate::source::Source;
+use crate::texts::first_tokens;
+use crate::totals::Totals;
+use crate::units::Units;
+use elab_env::NameTable;
+use sig_base::NoMemory;
+use sig_parser::SourceFile;
+use sml_lexer::{Token, spans_inside};
+use std::alloc::Global;
+use std::marker::Model;
+use type_core::Library;
+
+/// Elaborates signature files one after another, and gives the library of what they describe. Contracts
+/// see it as its basis.
+#[derive(Drop)]
+pub struct Elab {
+    alloc: Global,
+    units: Units,
+    progress: Progress,
+    totals: Totals,
+}
+
+impl Model for Elab {
+    ghost use Rattle.std.specs.Coded.{codes};
+    ghost use Rattle.type_core.specs.contracts.ty.Ty as types;
+    ghost use Rattle.sig_elab.specs.contracts.entry.Entry as entries;
+    ghost use Rattle.sig_elab.specs.Library.{Basis};
+
+    ghost Value = { Basis };
+
+    ghost coded = { Prim.hlevel (codes, types.the_row.coded, entries.the_row.coded) };
+
+    ghost use Rattle.sig_elab.specs.Soundness.{IsSound};
+    ghost use Rattle.sig_elab.specs.Totals.{AreTotals};
+    ghost use Rattle.sig_elab.specs.Views.{state_of};
+
+    ghost view = { λ e. record { units = e.units.entries.items; state = state_of e.progress } };
+
+    ghost invariant = { λ e. AreTotals e.totals (record { units = e.units.entries.items; state = state_of e.progress }) × IsSound (record { units = e.units.entries.items; state = state_of e.progress }) };
+}
+
+// Tokens of a text stand within it.
+fn tokens_within(bytes: &[u8], tokens: &[Token])
+    requires tokens { tokens_of bytes.now tokens.now }
+    ensures within { AreWithin bytes.now tokens.now }
+{
+    spans_inside();
+    let _ = bytes;
+    let _ = tokens;
+}
+
+// How far a file comes.
+fn elaborate_file(
+    alloc: Global,
+    file: &SourceFile,
+    tokens: &[Token],
+    bytes: &[u8],
+    before: &Units,
+    draft: Draft,
+) -> Result<Draft, ElabRefusal>
+    requires tokens { tokens_of bytes.now tokens.now }
+    requires phrase { File (sorts_of bytes.now tokens.now) file.now }
+    requires counted { AreTotals draft.totals (basis_of before.now draft) }
+    requires sound { IsSound (basis_of before.now draft) }
+    ensures outcome { GivesBasis before.now (elaborated (texts_of bytes.now tokens.now) file.now (basis_of before.now draft)) result }
+    ensures sound { IfOk result (λ after. IsSound (basis_of before.now after)) }
+{
+    tokens_within(bytes, tokens);
+    let firsts = first_tokens(alloc, bytes, tokens)?;
+    let initial = initial_environment(alloc)?;
+    let source = Source {
+        bytes,
+        tokens,
+        firsts: firsts.as_slice(),
+    };
+    declare_all(
+        alloc,
+        &source,
+        initial.as_slice(),
+        file.decs.as_slice(),
+        before,
+        draft,
+    )
+}
+
+impl Elab {
+    /// An elaborator that has seen no file.
+    pub fn new(alloc: Global) -> Result<Elab, NoMemory>
+        ensures empty { IfOk result (λ e. e ≡ empty_basis) }
+    {
+        Ok(Elab {
+            alloc,
+            units: Units::new(alloc),
+            progress: Progress {
+                table: NameTable::new(alloc)?,
+                weight: 0,
+            },
+            totals: Totals::none(),
+        })
+    }
+
+    /// Elaborates a file, given as a tree over the tokens of its bytes, in the basis of the files before it.
+    /// `Refused` names the first condition that fails, and the number of its token. After a refusal the
+    /// elaborator is as before.
+    pub fn add_file(
+        &mut self,
+        file: &SourceFile,
+        tokens: &[Token],
+        bytes: &[u8],
+    ) -> Result<(), ElabRefusal>
+        requires tokens { tokens_of bytes.now tokens.now }
+        requires phrase { File (sorts_of bytes.now tokens.now) file.now }
+        ensures outcome { Agrees (elaborated (texts_of bytes.now tokens.now) file.now self.old) result self.new }
+        ensures kept { OnErr result (self.new ≡ self.old) }
+    {
+        let draft = Draft {
+            added: Units::new(self.alloc),
+            progress: self.progress.copy(self.alloc)?,
+            totals: self.totals,
+        };
+        let Draft {
+            added,
+            progress,
+            totals,
+        } = elaborate_file(self.alloc, file, tokens, bytes, &self.units, draft)?;
+        self.units.append(self.alloc, added)?;
+        self.progress = progress;
+        self.totals = totals;
+        Ok(())
+    }
+
+    // What holds of every elaborator.
+    fn is_sound(&self)
+        ensures sound { IsSound self.now }
+    {
+        let _ = &self.units;
+    }
+
+    // What the units have, as a library.
+    fn listed(&self, alloc: Global) -> Result<Library, NoMemory>
+        ensures library { IfOk result (λ l. l ≡ library self.now) }
+    {
+        let units = self.units.entries.as_slice();
+        Ok(Library {
+            units: all_units(alloc, units)?,
+            names: all_names(alloc, &self.progress.table)?,
+            tycons: all_tycons(alloc, units)?,
+            members: all_members(alloc, units)?,
+        })
+    }
+
+    /// The library of the files that were added, in their order. It is valid.
+    pub fn finish(&self, alloc: Global) -> Result<Library, NoMemory>
+        ensures library { IfOk result (λ l. l ≡ library self.now) }
+        ensures valid { IfOk result (λ l. IsValidLibrary l) }
+    {
+        self.is_sound();
+        let library = self.listed(alloc)?;
+        Ok(library)
+    }
+}
