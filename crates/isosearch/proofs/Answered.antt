@@ -1,53 +1,58 @@
--- What a search finds or refuses is due.
-use Rattle.std.proofs.Common.{◌≡◌, ℕ, ◌≤◌, ◌<◌, ◌==◌, List, [], ◌∷◌, length, refl, sym, ap, ◌∙◌, subst, arith}
-use Rattle.std.specs.Prelude.{Result, Ok, Err, IfOk, IfErr, Option, if◌then◌else◌}
-use Rattle.std.proofs.lemmas.Bool.Decides.{nat_tests}
+-- What a file, a query and a command come to is due.
+use Rattle.std.proofs.Common.{◌≡◌, ℕ, ◌≤◌, List, length, Some, None, sym, subst}
+use Rattle.std.specs.Prelude.{Result, Ok, Err, IfOk, IfErr, Option}
 use Rattle.sig_base.specs.FileMap.{FileMap}
 use Rattle.sig_base.specs.Reading.{Holds}
-use Rattle.type_core.specs.InitialNames.{initial_names}
+use Rattle.sml_lexer.specs.declared.line_col.LineCol.{LineCol}
+use Rattle.sml_lexer.specs.Places.{column_at, line_at}
+use Rattle.type_core.specs.declared.library.Library.{Library}
 use Rattle.type_core.specs.declared.member.Member.{Member}
-use Rattle.isosearch.specs.Ending.{Answers, Finds, IsDecided, Refuses, reported}
-use Rattle.isosearch.specs.Library.{IsLibrary}
-use Rattle.isosearch.specs.Outcome.{Due, Outcome, bad_file, bad_query, found, long_query, source_limit, status_of}
-use Rattle.isosearch.specs.Refusals.{SearchFails}
-use Rattle.isosearch.specs.Report.{report}
+use Rattle.type_core.specs.declared.ty.Scheme.{Scheme}
+use Rattle.isosearch.specs.declared.fault.Fault.{Fault}
+use Rattle.isosearch.specs.declared.fault.SourceRefusal.TheVariants as source
+use Rattle.isosearch.specs.Ending.{Decides, outcome_of, reported}
+use Rattle.isosearch.specs.Library.{files}
+use Rattle.isosearch.specs.Outcome.{Answers, Due, Loads, Outcome, all, answer, bad, bad_query, found, listed, refusal, searched}
+use Rattle.isosearch.specs.Query.{Asks, source_limit}
+use Rattle.isosearch.specs.Report.{Hits}
+use Rattle.isosearch.specs.Stages.{Reads}
 use Rattle.isosearch.specs.Words.{Command}
 use Rattle.isosearch.specs.declared.report.Report.{Report}
 use Rattle.isosearch.specs.declared.run.Refusal.{Refusal}
-use Rattle.isosearch.specs.declared.run.Refusal.TheVariants as refusal
+use Rattle.isosearch.specs.declared.run.Refusal.TheVariants as refused
 
-pub finds : (bytes query : List ℕ) (members : List Member) (result : Result Report Refusal) → IsLibrary bytes members → IfOk result (λ r. Answers query members r) → IfOk result (λ r. Finds bytes query r)
-finds bytes query members (Ok r) library answers = (members, library, answers)
-finds bytes query members (Err r) library answers = tt
+-- the refusal of a file is due, and that of a query
+pub file_refused : (told : Option FileMap) (path bytes : List ℕ) (fault : Fault) (place : ℕ) (at : LineCol) → Holds told path bytes → length bytes ≤ source_limit
+    → Reads files bytes (Err (source.Refused fault place)) → at.line ≡ line_at bytes place → at.col ≡ column_at bytes place
+    → Decides (λ outcome. Loads told path (Err outcome)) path (refused.File fault at)
+file_refused told path bytes fault place at holds short reads line column = λ _. rw (line, column) (bad holds short reads)
 
-status_is : (hits : List Member) → status_of hits ≡ (if length hits == 0 then 1 else 0)
-status_is [] = refl
-status_is (hit ∷ hits) = grind (arith, nat_tests)
+pub query_refused : (library : Library) (query : List ℕ) (fault : Fault) (place : ℕ) (at : LineCol) → Asks query (Err (source.Refused fault place)) → at.line ≡ line_at query place → at.col ≡ column_at query place
+    → (path : List ℕ) → Decides (Answers library (Some query)) path (refused.Query fault at)
+query_refused library query fault place at asks line column path = λ _. rw (line, column) (bad_query asks)
 
-due_report : (told : Option FileMap) (command : Command) (bytes : List ℕ) (r : Report) → Holds told command.file bytes → length bytes ≤ source_limit → Finds bytes command.query r → Due told command (reported r)
-due_report told command bytes r holds short (members, library, (small, (scheme, query, (hits, are, text, count)))) =
-    let D : Outcome → Type 0 = λ outcome. Due told command outcome in
-    let status : status_of hits ≡ (if r.hits == 0 then 1 else 0) = status_is hits ∙ ap (λ n. if n == 0 then 1 else 0) (sym count) in
-    let same : record { status = status_of hits; out = report initial_names hits; err = [] } ≡ reported r = λ i. record { status = status i; out = sym text i; err = [] } in
-    subst D same (found (record { bytes = bytes; holds = holds; short = short; library = library; small = small; query = query }) are)
+-- the report of the hits is due
+pub query_found : (library : Library) (query : List ℕ) (scheme : Scheme) (outcome : Outcome) → Asks query (Ok scheme) → (hits : List Member) × Hits scheme library.members hits × (outcome ≡ searched library hits)
+    → Answers library (Some query) outcome
+query_found library query scheme outcome asks (hits, are, is) = let D = Answers library (Some query) in subst D (sym is) (found asks are)
 
-undecided : (status : ℕ) → 4 < status → IsDecided status → ⊥
-undecided status large decided = omega (arith, decided)
+module _ (told : Option FileMap) (command : Command) (library : Library) (query : Option (List ℕ)) (is : command.query ≡ query) (loaded : Loads told command.file (Ok library)) where
+  -- what is due over the library of the file is due
+  pub one_due : (outcome : Outcome) → Answers library query outcome → Due told command outcome
+  one_due outcome due = let D : Option (List ℕ) → Type 0 = λ q. Answers library q outcome in answer loaded (subst D (sym is) due)
 
-due_refusal : (told : Option FileMap) (command : Command) (bytes : List ℕ) (r : Refusal) → Holds told command.file bytes → length bytes ≤ source_limit → SearchFails bytes command.query r → Refuses told command r
-due_refusal told command bytes refusal.ReadFault holds short (members, library, none) = absurd none
-due_refusal told command bytes refusal.TooLong holds short (members, library, none) = absurd none
-due_refusal told command bytes (refusal.File fault at) holds short (place, fails, is) = λ _. rw (is.0, is.1) (bad_file holds short fails)
-due_refusal told command bytes (refusal.Query fault at) holds short (members, library, (small, (place, fails, is))) = λ _. rw (is.0, is.1) (bad_query holds short library small fails)
-due_refusal told command bytes refusal.QueryTooLarge holds short (members, library, large) = λ _. long_query holds short library large
-due_refusal told command bytes refusal.NoMemory holds short fails = λ decided. absurd (undecided 7 (omega arith) decided)
+  pub answer_due : (result : Result Report Refusal) → IfOk result (λ r. Answers library query (reported r)) → IfOk result (λ r. Due told command (reported r))
+  answer_due (Ok r) due = one_due (reported r) due
+  answer_due (Err r) due = tt
 
-pub report_due : (told : Option FileMap) (command : Command) (bytes : List ℕ) (result : Result Report Refusal) → Holds told command.file bytes → length bytes ≤ source_limit
-    → IfOk result (λ r. Finds bytes command.query r) → IfOk result (λ r. Due told command (reported r))
-report_due told command bytes (Ok r) holds short finds_it = due_report told command bytes r holds short finds_it
-report_due told command bytes (Err r) holds short finds_it = tt
+  pub refusal_due : (result : Result Report Refusal) → IfErr result (λ r. Decides (Answers library query) command.file r) → IfErr result (λ r. Decides (Due told command) command.file r)
+  refusal_due (Ok r) due = tt
+  refusal_due (Err r) due = λ decided. one_due (outcome_of command.file r) (due decided)
 
-pub refusal_due : (told : Option FileMap) (command : Command) (bytes : List ℕ) (result : Result Report Refusal) → Holds told command.file bytes → length bytes ≤ source_limit
-    → IfErr result (λ r. SearchFails bytes command.query r) → IfErr result (λ r. Refuses told command r)
-refusal_due told command bytes (Ok r) holds short fails = tt
-refusal_due told command bytes (Err r) holds short fails = due_refusal told command bytes r holds short fails
+-- a list of all members is due
+pub list_due : (told : Option FileMap) (command : Command) (library : Library) (outcome : Outcome) → command.query ≡ None → Loads told command.file (Ok library) → outcome ≡ listed library → Due told command outcome
+list_due told command library outcome is loaded same = one_due told command library None is loaded outcome (let D = Answers library None in subst D (sym same) all)
+
+-- the refusal of the file is due
+pub loading_due : (told : Option FileMap) (command : Command) (r : Refusal) → Decides (λ outcome. Loads told command.file (Err outcome)) command.file r → Decides (Due told command) command.file r
+loading_due told command r fails = λ decided. refusal (fails decided)

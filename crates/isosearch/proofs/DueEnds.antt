@@ -3,7 +3,7 @@ use Rattle.std.proofs.Common.{◌≡◌, ◌⊎◌, inl, inr, ℕ, List, [], Som
 use Rattle.std.specs.Prelude.{Option}
 use Rattle.std.specs.Io.KnownBytes.{Appends}
 use Rattle.sig_base.specs.FileMap.{FileMap}
-use Rattle.isosearch.specs.Ending.{Completes, EndsAsDue, EndsExactly, EndsWith, IsCutShort, IsDecided, Refuses, outcome_of, reported}
+use Rattle.isosearch.specs.Ending.{Completes, EndsAsDue, EndsExactly, EndsWith, Decides, IsCutShort, IsDecided, outcome_of, reported}
 use Rattle.isosearch.specs.Lines.{Says}
 use Rattle.isosearch.specs.Outcome.{Due, Outcome}
 use Rattle.isosearch.specs.Words.{Command}
@@ -35,22 +35,20 @@ wanted_memory None command status out_before out_now is = tt
 wanted_memory (Some files) command status out_before out_now is = λ outcome due answered. inr is
 
 -- a refusal decides the run, or a fault or want of memory ended it
-how_refused : (command : Command) (r : Refusal) → IsDecided (outcome_of command r).status ⊎ ((r ≡ refusal.ReadFault) ⊎ (r ≡ refusal.NoMemory))
-how_refused command refusal.ReadFault = inr (inl refl)
-how_refused command refusal.TooLong = inl (inr (inr (inl refl)))
-how_refused command (refusal.File fault at) = inl (inr (inr (inl refl)))
-how_refused command (refusal.Query fault at) = inl (inr (inr (inr refl)))
-how_refused command refusal.QueryTooLarge = inl (inr (inr (inr refl)))
-how_refused command refusal.NoMemory = inr (inr refl)
+how_refused : (path : List ℕ) (r : Refusal) → IsDecided (outcome_of path r).status ⊎ ((r ≡ refusal.ReadFault) ⊎ (r ≡ refusal.NoMemory))
+how_refused path refusal.ReadFault = inr (inl refl)
+how_refused path refusal.TooLong = inl (inr (inr (inl refl)))
+how_refused path (refusal.File fault at) = inl (inr (inr (inl refl)))
+how_refused path (refusal.Query fault at) = inl (inr (inr (inr refl)))
+how_refused path refusal.NoMemory = inr (inr refl)
 
 -- it has nothing for the output
-out_of_refused : (command : Command) (r : Refusal) → (outcome_of command r).out ≡ []
-out_of_refused command refusal.ReadFault = refl
-out_of_refused command refusal.TooLong = refl
-out_of_refused command (refusal.File fault at) = refl
-out_of_refused command (refusal.Query fault at) = refl
-out_of_refused command refusal.QueryTooLarge = refl
-out_of_refused command refusal.NoMemory = refl
+out_of_refused : (path : List ℕ) (r : Refusal) → (outcome_of path r).out ≡ []
+out_of_refused path refusal.ReadFault = refl
+out_of_refused path refusal.TooLong = refl
+out_of_refused path (refusal.File fault at) = refl
+out_of_refused path (refusal.Query fault at) = refl
+out_of_refused path refusal.NoMemory = refl
 
 module _ (one : OneOutcome) (told : Option FileMap) (command : Command) (r : Report) (status : ℕ) (out_before out_now err_before err_now : Option (List ℕ)) (due : Due told command (reported r))
     (statuses : (status ≡ (reported r).status) ⊎ (status ≡ 6)) (whole : (status ≡ 6 → ⊥) → Appends out_before out_now r.text × (err_now ≡ err_before)) where
@@ -71,27 +69,27 @@ module _ (one : OneOutcome) (told : Option FileMap) (command : Command) (r : Rep
   pub printed_completely : (status ≡ 6 → ⊥) → Completes told command status out_before out_now
   printed_completely written = ends_completely told command status out_before out_now err_before err_now 0 0 (printed 0 0 written)
 
-module _ (one : OneOutcome) (told : Option FileMap) (command : Command) (r : Refusal) (status : ℕ) (out err_before err_now : Option (List ℕ)) (count later : ℕ) (refuses : Refuses told command r)
-    (is : status ≡ (outcome_of command r).status) (says : Says err_before err_now count later (outcome_of command r).err) where
-  refused : IsDecided (outcome_of command r).status → EndsExactly told command status out out err_before err_now count later
+module _ (one : OneOutcome) (told : Option FileMap) (command : Command) (r : Refusal) (status : ℕ) (out err_before err_now : Option (List ℕ)) (count later : ℕ) (refuses : Decides (Due told command) command.file r)
+    (is : status ≡ (outcome_of command.file r).status) (says : Says err_before err_now count later (outcome_of command.file r).err) where
+  refused : IsDecided (outcome_of command.file r).status → EndsExactly told command status out out err_before err_now count later
   refused decided = ends_exactly one told command status out out err_before err_now count later (record {
-    outcome = outcome_of command r;
+    outcome = outcome_of command.file r;
     due = refuses decided;
-    ends = record { status_is = is; written = rw (out_of_refused command r) (Appends-none out); said = says };
+    ends = record { status_is = is; written = rw (out_of_refused command.file r) (Appends-none out); said = says };
   })
 
   pub refused_exactly : (IsCutShort status → ⊥) → EndsExactly told command status out out err_before err_now count later
-  refused_exactly ended = by (how_refused command r)
+  refused_exactly ended = by (how_refused command.file r)
     where
-      by : IsDecided (outcome_of command r).status ⊎ ((r ≡ refusal.ReadFault) ⊎ (r ≡ refusal.NoMemory)) → EndsExactly told command status out out err_before err_now count later
+      by : IsDecided (outcome_of command.file r).status ⊎ ((r ≡ refusal.ReadFault) ⊎ (r ≡ refusal.NoMemory)) → EndsExactly told command status out out err_before err_now count later
       by (inl decided) = refused decided
-      by (inr (inl fault)) = absurd (ended (inl (is ∙ ap (λ x. (outcome_of command x).status) fault)))
-      by (inr (inr wanted)) = absurd (ended (inr (inr (is ∙ ap (λ x. (outcome_of command x).status) wanted))))
+      by (inr (inl fault)) = absurd (ended (inl (is ∙ ap (λ x. (outcome_of command.file x).status) fault)))
+      by (inr (inr wanted)) = absurd (ended (inr (inr (is ∙ ap (λ x. (outcome_of command.file x).status) wanted))))
 
   pub refused_completely : (r ≡ refusal.ReadFault → ⊥) → Completes told command status out out
-  refused_completely read = by (how_refused command r)
+  refused_completely read = by (how_refused command.file r)
     where
-      by : IsDecided (outcome_of command r).status ⊎ ((r ≡ refusal.ReadFault) ⊎ (r ≡ refusal.NoMemory)) → Completes told command status out out
+      by : IsDecided (outcome_of command.file r).status ⊎ ((r ≡ refusal.ReadFault) ⊎ (r ≡ refusal.NoMemory)) → Completes told command status out out
       by (inl decided) = ends_completely told command status out out err_before err_now count later (refused decided)
       by (inr (inl fault)) = absurd (read fault)
-      by (inr (inr wanted)) = wanted_memory told command status out out (is ∙ ap (λ x. (outcome_of command x).status) wanted)
+      by (inr (inr wanted)) = wanted_memory told command status out out (is ∙ ap (λ x. (outcome_of command.file x).status) wanted)

@@ -1,15 +1,19 @@
 -- The hits among the members that were looked at, and their lines.
-use Rattle.std.proofs.Common.{◌≡◌, ℕ, zero, suc, ◌+◌, ◌<◌, ◌≤◌, List, [], ◌∷◌, ◌++◌, length, take, map, get_or, refl, sym, ap, subst, ◌∙◌, arith, append-nil}
+use Rattle.std.proofs.Common.{◌≡◌, ℕ, ◌+◌, ◌<◌, ◌≤◌, List, [], ◌∷◌, ◌++◌, length, take, map, get_or, refl, sym, ap, subst, ◌∙◌, arith, append-nil}
+use Rattle.std.specs.Prelude.{◌==◌, false, codes, decimal, if◌then◌else◌}
 use Rattle.std.specs.List.{concat}
-use Rattle.std.proofs.lemmas.List.{map-append, length-append, take_more}
+use Rattle.std.proofs.lemmas.Bool.Decides.{nat_tests}
+use Rattle.std.proofs.lemmas.List.{map-append, length-append, take_more, take_all}
 use Rattle.std.proofs.lemmas.List.Folds.{concat-append}
+use Rattle.type_core.specs.declared.library.Library.{Library}
 use Rattle.type_core.specs.declared.member.Member.{Member}
 use Rattle.type_core.specs.declared.names.TypeName.{TypeName}
 use Rattle.type_core.specs.declared.ty.Scheme.{Scheme}
 use Rattle.type_core.specs.Renaming.{AreEqualUpToNames}
-use Rattle.type_core.specs.Schemes.{IsScheme}
-use Rattle.isosearch.specs.Library.{AreSchemes}
-use Rattle.isosearch.specs.Report.{Hits, no_members, hit, no_hit, member_line, member_lines}
+use Rattle.isosearch.specs.declared.report.Report.{Report}
+use Rattle.isosearch.specs.Ending.{reported}
+use Rattle.isosearch.specs.Outcome.{listed, searched, status_of}
+use Rattle.isosearch.specs.Report.{Hits, no_members, hit, no_hit, member_line, member_lines, report}
 
 hits_with : {query : Scheme} {members hits : List Member} (member : Member) → Hits query members hits → AreEqualUpToNames member.scheme query → Hits query (members ++ member ∷ []) (hits ++ member ∷ [])
 hits_with member no_members equal = hit equal no_members
@@ -61,7 +65,30 @@ found_none query names members i d text count within found apart =
       few = omega (arith, found.few);
     }
 
-pub scheme_at : (members : List Member) (i : ℕ) (d : Member) → AreSchemes members → i < length members → IsScheme (get_or members i d).scheme
-scheme_at [] i d schemes within = absurd (omega arith)
-scheme_at (member ∷ members) zero d schemes within = schemes.0
-scheme_at (member ∷ members) (suc i) d schemes within = scheme_at members i d schemes.1 (omega arith)
+-- the lines of the members looked at, and of one more
+pub listed_one : (names : List TypeName) (members : List Member) (i : ℕ) (d : Member) (text : List ℕ) → i < length members → text ≡ member_lines names (take i members)
+    → text ++ member_line names (get_or members i d) ≡ member_lines names (take (i + 1) members)
+listed_one names members i d text within lines =
+    ap (λ t. t ++ member_line names (get_or members i d)) lines ∙ sym (lines_with names (take i members) (get_or members i d)) ∙ ap (member_lines names) (sym (take_more members i d within))
+
+status_is : (hits : List Member) → (if length hits == 0 then 1 else 0) ≡ status_of hits
+status_is [] = refl
+status_is (first ∷ others) = grind (arith, nat_tests)
+
+-- the report once all members were looked at
+pub all_listed : (library : Library) (members : List Member) (i : ℕ) (text : List ℕ) (r : Report) → members ≡ library.members → length members ≤ i → text ≡ member_lines library.names (take i members)
+    → r.text ≡ text ++ decimal (length members) ++ codes " found\n" → r.found_none ≡ false → reported r ≡ listed library
+all_listed library members i text r are all lines is never =
+    let whole : text ≡ member_lines library.names members = lines ∙ ap (member_lines library.names) (take_all i members all) in
+    let out : r.text ≡ report library.names library.members = is ∙ ap (λ t. t ++ decimal (length members) ++ codes " found\n") whole ∙ ap (report library.names) are in
+    λ k. record { status = if never k then 1 else 0; out = out k; err = [] }
+
+pub all_searched : (query : Scheme) (library : Library) (members : List Member) (i : ℕ) (text : List ℕ) (count : ℕ) (r : Report) → members ≡ library.members → length members ≤ i
+    → HitsFound query library.names members i text count → r.text ≡ text ++ decimal count ++ codes " found\n" → r.found_none ≡ (count == 0)
+    → (hits : List Member) × Hits query library.members hits × (reported r ≡ searched library hits)
+all_searched query library members i text count r are all found is none =
+    let status : (if r.found_none then 1 else 0) ≡ status_of found.hits =
+    ap (λ b. if b then 1 else 0) none ∙ ap (λ n. if n == 0 then 1 else 0) found.counted ∙ status_is found.hits in
+    let out : r.text ≡ report library.names found.hits = is ∙ (λ k. found.lines k ++ decimal (found.counted k) ++ codes " found\n") in
+    let H : List Member → Type 0 = λ looked. Hits query looked found.hits in
+    (found.hits, subst H (take_all i members all ∙ are) found.are, λ k. record { status = status k; out = out k; err = [] })

@@ -1,22 +1,20 @@
--- A text means one thing, or is refused for one cause at one place.
-use Rattle.std.proofs.Common.{◌≡◌, ◌⊎◌, inl, inr, ℕ, ◌+◌, ◌<◌, ◌≤◌, List, ◌++◌, length, take, drop, refl, sym, ap, subst, ◌∙◌, arith, append_assoc}
-use Rattle.std.specs.Prelude.{Ok, Err}
+-- One thing comes of a text.
+use Rattle.std.proofs.Common.{◌≡◌, ℕ, ◌+◌, ◌<◌, ◌≤◌, List, ◌++◌, length, take, drop, sym, ap, subst, ◌∙◌, arith, append_assoc}
+use Rattle.std.specs.Prelude.{Result, Err}
 use Rattle.std.proofs.lemmas.List.{length-map, take-append-drop, take-take}
 use Rattle.std.proofs.lemmas.Option.{slice_get_within}
+use Rattle.sig_elab.specs.Sources.{texts_of}
 use Rattle.sml_lexer.specs.declared.token.LexRefusal.{LexRefusal}
-use Rattle.sml_lexer.specs.declared.token.LexRefusal.TheVariants as lexical
 use Rattle.sml_lexer.specs.declared.token.Token.{Token}
 use Rattle.sml_lexer.specs.Refusals.{Refuses as RefusesText}
 use Rattle.sml_lexer.specs.Tokens.{tokens as tokens_of}
 use Rattle.ty_parser.specs.declared.sort.Sort.{Sort}
+use Rattle.ty_parser.specs.declared.tree.ParseRefusal.{ParseRefusal}
 use Rattle.ty_parser.specs.declared.tree.ParseRefusal.TheVariants as parsing
 use Rattle.ty_parser.specs.Phrases.{Begins, IsShallow, StopsAt, TooDeepAt, Refuses as RefusesSorts}
 use Rattle.ty_parser.specs.Sorts.{sort_of, sorts_of}
-use Rattle.isosearch.specs.declared.fault.Fault.{Fault}
-use Rattle.isosearch.specs.declared.fault.Fault.TheVariants as fault
-use Rattle.isosearch.specs.declared.fault.SourceRefusal.TheVariants as source
-use Rattle.isosearch.specs.Elaboration.{texts_of}
-use Rattle.isosearch.specs.Stages.{HasNoTokens, IsNoPhrase, Language, Means, Refused, by_tokens, by_phrase, by_form, of_lexer, start_of}
+use Rattle.isosearch.specs.declared.fault.SourceRefusal.{SourceRefusal}
+use Rattle.isosearch.specs.Stages.{IsNoPhrase, Language, Reads, by_tokens, by_phrase, by_meaning, of_lexer, of_parser, placed}
 
 -- what the lexer says of every text
 pub record Lexing : Type 0 where
@@ -27,28 +25,6 @@ pub record Lexing : Type 0 where
 -- what a grammar says of every list of sorts
 abbrev pub OneTree : {Tree : Type 0} → (List Sort → Tree → Type 0) → Type 0
 OneTree {Tree = Tree} phrase = (ss : List Sort) (e f : Tree) → phrase ss e → phrase ss f → e ≡ f
-
--- the lexer's refusal for a fault of tokens
-lexer_refusal : (bytes : List ℕ) (f : Fault) (place : ℕ) → HasNoTokens bytes f place → (r : LexRefusal) × RefusesText bytes r × (of_lexer r ≡ source.Refused f place)
-lexer_refusal bytes fault.BadByte place refused = (lexical.BadByte place, refused, refl)
-lexer_refusal bytes fault.OpenComment place refused = (lexical.OpenComment place, refused, refl)
-lexer_refusal bytes fault.LongName place refused = (lexical.LongName place, refused, refl)
-lexer_refusal bytes fault.Syntax place refused = absurd refused
-lexer_refusal bytes fault.TooDeep place refused = absurd refused
-lexer_refusal bytes fault.NotBuilt place refused = absurd refused
-
--- the parser's refusal for a fault of a phrase
-parser_refusal : {Tree : Type 0} (phrase : List Sort → Tree → Type 0) (ss : List Sort) (f : Fault) (k : ℕ) → IsNoPhrase phrase ss f k
-    → ((f ≡ fault.Syntax) × RefusesSorts phrase ss (parsing.Syntax k)) ⊎ ((f ≡ fault.TooDeep) × RefusesSorts phrase ss (parsing.TooDeep k))
-parser_refusal phrase ss fault.BadByte k refused = absurd refused
-parser_refusal phrase ss fault.OpenComment k refused = absurd refused
-parser_refusal phrase ss fault.LongName k refused = absurd refused
-parser_refusal phrase ss fault.Syntax k refused = inl (refl, refused)
-parser_refusal phrase ss fault.TooDeep k refused = inr (refl, refused)
-parser_refusal phrase ss fault.NotBuilt k refused = absurd refused
-
-same_fault : (f g : Fault) (j k : ℕ) → source.Refused f j ≡ source.Refused g k → (f ≡ g) × (j ≡ k)
-same_fault f g j k same = (cc, cc)
 
 module _ {Tree : Type 0} (phrase : List Sort → Tree → Type 0) where
   -- fewer sorts begin a phrase where more do
@@ -82,77 +58,44 @@ module _ {Tree : Type 0} (phrase : List Sort → Tree → Type 0) where
       let within = deep_within ss k deep in
       stop_before_not ss j (k + 1) stops deep.allowed (omega (arith, within)) (omega (arith, before))
 
-  -- the sorts are refused for one cause at one token
-  one_phrase_fault : (ss : List Sort) (f g : Fault) (j k : ℕ) → IsNoPhrase phrase ss f j → IsNoPhrase phrase ss g k → (f ≡ g) × (j ≡ k)
-  one_phrase_fault ss f g j k a b = by (parser_refusal phrase ss f j a) (parser_refusal phrase ss g k b)
-    where
-      by : ((f ≡ fault.Syntax) × RefusesSorts phrase ss (parsing.Syntax j)) ⊎ ((f ≡ fault.TooDeep) × RefusesSorts phrase ss (parsing.TooDeep j))
-          → ((g ≡ fault.Syntax) × RefusesSorts phrase ss (parsing.Syntax k)) ⊎ ((g ≡ fault.TooDeep) × RefusesSorts phrase ss (parsing.TooDeep k)) → (f ≡ g) × (j ≡ k)
-      by (inl x) (inl y) = (x.0 ∙ sym y.0, one_stop ss j k x.1.0 y.1.0)
-      by (inl x) (inr y) = absurd (stop_deep_not ss j k x.1 y.1)
-      by (inr x) (inl y) = absurd (stop_deep_not ss k j y.1 x.1)
-      by (inr x) (inr y) = (x.0 ∙ sym y.0, one_depth ss j k x.1 y.1)
+  -- the sorts are no phrase for one reason
+  one_phrase_refusal : (ss : List Sort) (a b : ParseRefusal) → IsNoPhrase phrase ss a → IsNoPhrase phrase ss b → a ≡ b
+  one_phrase_refusal ss (parsing.Syntax j) (parsing.Syntax k) a b = ap parsing.Syntax (one_stop ss j k a.0 b.0)
+  one_phrase_refusal ss (parsing.Syntax j) (parsing.TooDeep k) a b = absurd (stop_deep_not ss j k a b)
+  one_phrase_refusal ss (parsing.Syntax j) parsing.NoMemory a b = absurd b
+  one_phrase_refusal ss (parsing.TooDeep j) (parsing.Syntax k) a b = absurd (stop_deep_not ss k j b a)
+  one_phrase_refusal ss (parsing.TooDeep j) (parsing.TooDeep k) a b = ap parsing.TooDeep (one_depth ss j k a b)
+  one_phrase_refusal ss (parsing.TooDeep j) parsing.NoMemory a b = absurd b
+  one_phrase_refusal ss parsing.NoMemory other a b = absurd a
 
   -- sorts that are a phrase without a token that is too deep aren't refused
-  phrase_refused_not : (ss : List Sort) (e : Tree) (f : Fault) (k : ℕ) → phrase ss e → IsShallow phrase 0 ss (length ss) → IsNoPhrase phrase ss f k → ⊥
-  phrase_refused_not ss e f k is shallow refused = by (parser_refusal phrase ss f k refused)
-    where
-      by : ((f ≡ fault.Syntax) × RefusesSorts phrase ss (parsing.Syntax k)) ⊎ ((f ≡ fault.TooDeep) × RefusesSorts phrase ss (parsing.TooDeep k)) → ⊥
-      by (inl x) = x.1.0.no_phrase e is
-      by (inr x) = shallow k (deep_within ss k x.1.0) x.1.0
+  phrase_refused_not : (ss : List Sort) (e : Tree) (r : ParseRefusal) → phrase ss e → IsShallow phrase 0 ss (length ss) → IsNoPhrase phrase ss r → ⊥
+  phrase_refused_not ss e (parsing.Syntax k) is shallow refused = refused.0.no_phrase e is
+  phrase_refused_not ss e (parsing.TooDeep k) is shallow refused = shallow k (deep_within ss k refused.0) refused.0
+  phrase_refused_not ss e parsing.NoMemory is shallow refused = refused
 
 module _ {Tree Meaning : Type 0} (language : Language Tree Meaning) (lexing : Lexing) (one_tree : OneTree language.phrase) (bytes : List ℕ) where
-  same_tree : (ts us : List Token) (e f : Tree) → tokens_of bytes ts → tokens_of bytes us → language.phrase (sorts_of bytes ts) e → language.phrase (sorts_of bytes us) f → (ts ≡ us) × (e ≡ f)
-  same_tree ts us e f r q d h =
-      let same : ts ≡ us = lexing.one_list bytes ts us r q in
-      (same, one_tree (sorts_of bytes ts) e f d (subst (λ xs. language.phrase (sorts_of bytes xs) f) (sym same) h))
-
-  same_meaning : (ts us : List Token) (e f : Tree) → tokens_of bytes ts → tokens_of bytes us → language.phrase (sorts_of bytes ts) e → language.phrase (sorts_of bytes us) f
-      → language.meaning (texts_of bytes ts) e ≡ language.meaning (texts_of bytes us) f
-  same_meaning ts us e f r q d h = let same = same_tree ts us e f r q d h in λ i. language.meaning (texts_of bytes (same.0 i)) (same.1 i)
-
-  -- a text means one thing
-  pub one_meaning : (a b : Meaning) → Means language bytes a → Means language bytes b → a ≡ b
-  one_meaning a b x y =
-      let both : Ok a ≡ Ok b = sym x.meant ∙ same_meaning x.tokens y.tokens x.tree y.tree x.lexed y.lexed x.parsed y.parsed ∙ y.meant in
-      cc
-
-  tokens_fault_not : (ts : List Token) (f : Fault) (place : ℕ) → tokens_of bytes ts → HasNoTokens bytes f place → ⊥
-  tokens_fault_not ts f place r refused = let x = lexer_refusal bytes f place refused in lexing.no_refusal bytes ts x.0 r x.1
-
-  phrase_fault_not : (ts us : List Token) (e : Tree) (f : Fault) (k : ℕ) → tokens_of bytes ts → tokens_of bytes us → language.phrase (sorts_of bytes ts) e
-      → IsShallow language.phrase 0 (sorts_of bytes ts) (length ts) → IsNoPhrase language.phrase (sorts_of bytes us) f k → ⊥
-  phrase_fault_not ts us e f k r q d shallow refused =
+  phrase_fault_not : (ts us : List Token) (e : Tree) (r : ParseRefusal) → tokens_of bytes ts → tokens_of bytes us → language.phrase (sorts_of bytes ts) e
+      → IsShallow language.phrase 0 (sorts_of bytes ts) (length ts) → IsNoPhrase language.phrase (sorts_of bytes us) r → ⊥
+  phrase_fault_not ts us e r x y is shallow refused =
       let long : length ts ≡ length (sorts_of bytes ts) = sym (length-map ts (sort_of bytes)) in
-      phrase_refused_not language.phrase (sorts_of bytes ts) e f k d (subst (λ n. IsShallow language.phrase 0 (sorts_of bytes ts) n) long shallow)
-      (subst (λ xs. IsNoPhrase language.phrase (sorts_of bytes xs) f k) (lexing.one_list bytes us ts q r) refused)
+      phrase_refused_not language.phrase (sorts_of bytes ts) e r is (subst (λ n. IsShallow language.phrase 0 (sorts_of bytes ts) n) long shallow)
+      (subst (λ xs. IsNoPhrase language.phrase (sorts_of bytes xs) r) (lexing.one_list bytes us ts y x) refused)
 
-  -- a text that means something isn't refused
-  pub meaning_refused_not : (a : Meaning) (f : Fault) (place : ℕ) → Means language bytes a → Refused language bytes f place → ⊥
-  meaning_refused_not a f place x (by_tokens refused) = tokens_fault_not x.tokens f place x.lexed refused
-  meaning_refused_not a f place x (by_phrase us k q refused) = phrase_fault_not x.tokens us x.tree f k x.lexed q x.parsed x.shallow refused
-  meaning_refused_not a f place x (by_form us {tree = e} k q d shallow refused) =
-      let both : Ok a ≡ Err k = sym x.meant ∙ same_meaning x.tokens us x.tree e x.lexed q x.parsed d ∙ refused in
-      cc
-
-  -- a text is refused for one cause at one place
-  pub one_fault : (f g : Fault) (j k : ℕ) → Refused language bytes f j → Refused language bytes g k → (f ≡ g) × (j ≡ k)
-  one_fault f g j k (by_tokens a) (by_tokens b) =
-      let x = lexer_refusal bytes f j a in
-      let y = lexer_refusal bytes g k b in
-      same_fault f g j k (sym x.2 ∙ ap of_lexer (lexing.one_refusal bytes x.0 y.0 x.1 y.1) ∙ y.2)
-  one_fault f g j k (by_tokens a) (by_phrase us n q b) = absurd (tokens_fault_not us f j q a)
-  one_fault f g j k (by_tokens a) (by_form us n q d shallow b) = absurd (tokens_fault_not us f j q a)
-  one_fault f g j k (by_phrase ts m r a) (by_tokens b) = absurd (tokens_fault_not ts g k r b)
-  one_fault f g j k (by_phrase ts m r a) (by_phrase us n q b) =
-      let same : ts ≡ us = lexing.one_list bytes ts us r q in
-      let fault = one_phrase_fault language.phrase (sorts_of bytes ts) f g m n a (subst (λ xs. IsNoPhrase language.phrase (sorts_of bytes xs) g n) (sym same) b) in
-      (fault.0, λ i. start_of bytes (same i) (fault.1 i))
-  one_fault f g j k (by_phrase ts m r a) (by_form us {tree = e} n q d shallow b) = absurd (phrase_fault_not us ts e f m q r d shallow a)
-  one_fault f g j k (by_form ts m r d shallow a) (by_tokens b) = absurd (tokens_fault_not ts g k r b)
-  one_fault f g j k (by_form ts {tree = e} m r d shallow a) (by_phrase us n q b) = absurd (phrase_fault_not ts us e g n r q d shallow b)
-  one_fault f g j k (by_form ts {tree = e} m r d shallow a) (by_form us {tree = h} n q c deep b) =
-      let same = same_tree ts us e h r q d c in
-      let both : Err m ≡ Err n = sym a ∙ same_meaning ts us e h r q d c ∙ b in
-      let place : m ≡ n = cc in
-      (refl, λ i. start_of bytes (same.0 i) (place i))
+  -- one thing comes of a text
+  pub one_reading : (a b : Result Meaning SourceRefusal) → Reads language bytes a → Reads language bytes b → a ≡ b
+  one_reading a b (by_tokens r x) (by_tokens s y) = ap (λ q. Err (of_lexer q)) (lexing.one_refusal bytes r s x y)
+  one_reading a b (by_tokens r x) (by_phrase us s y reason) = absurd (lexing.no_refusal bytes us r y x)
+  one_reading a b (by_tokens r x) (by_meaning us f y is shallow) = absurd (lexing.no_refusal bytes us r y x)
+  one_reading a b (by_phrase ts r x reason) (by_tokens s y) = absurd (lexing.no_refusal bytes ts s x y)
+  one_reading a b (by_phrase ts r x reason) (by_phrase us s y other) =
+      let same : ts ≡ us = lexing.one_list bytes ts us x y in
+      let one : r ≡ s = one_phrase_refusal language.phrase (sorts_of bytes ts) r s reason (subst (λ xs. IsNoPhrase language.phrase (sorts_of bytes xs) s) (sym same) other) in
+      λ i. Err (of_parser bytes (same i) (one i))
+  one_reading a b (by_phrase ts r x reason) (by_meaning us f y is shallow) = absurd (phrase_fault_not us ts f r y x is shallow reason)
+  one_reading a b (by_meaning ts e x is shallow) (by_tokens s y) = absurd (lexing.no_refusal bytes ts s x y)
+  one_reading a b (by_meaning ts e x is shallow) (by_phrase us s y reason) = absurd (phrase_fault_not ts us e s x y is shallow reason)
+  one_reading a b (by_meaning ts e x is shallow) (by_meaning us f y also deep) =
+      let same : ts ≡ us = lexing.one_list bytes ts us x y in
+      let tree : e ≡ f = one_tree (sorts_of bytes ts) e f is (subst (λ xs. language.phrase (sorts_of bytes xs) f) (sym same) also) in
+      λ i. placed bytes (same i) (language.meaning (texts_of bytes (same i)) (tree i))

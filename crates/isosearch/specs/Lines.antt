@@ -6,6 +6,8 @@ use Rattle.sig_base.specs.Writing.{AppendsPart}
 use Rattle.sml_lexer.specs.Places.{line_at, column_at}
 use Rattle.isosearch.specs.declared.fault.Fault.{Fault}
 use Rattle.isosearch.specs.declared.fault.Fault.TheVariants as fault
+use Rattle.sig_elab.specs.declared.refusal.Why.{Why}
+use Rattle.sig_elab.specs.declared.refusal.Why.TheVariants as why
 
 -- a line was added, or a part of it and the count of faults rose
 abbrev pub Says : Option (List ℕ) → Option (List ℕ) → ℕ → ℕ → List ℕ → Type 0
@@ -31,6 +33,26 @@ not_read_line file = file ++ codes ": cannot be read\n"
 abbrev pub too_long_line : List ℕ → List ℕ
 too_long_line file = file ++ codes ": longer than 4194304 bytes\n"
 
+-- what is said of a condition of elaboration that fails
+abbrev pub why_text : Why → List ℕ
+why_text why.Unbound = codes "unbound identifier"
+why_text why.UnboundSignature = codes "unbound signature"
+why_text why.WrongArity = codes "wrong number of type arguments"
+why_text why.Duplicate = codes "described twice"
+why_text why.FreeVariable = codes "type variable is not a parameter"
+why_text why.RepeatedParameter = codes "type parameter repeated"
+why_text why.NotFlexible = codes "type is not flexible"
+why_text why.ArityClash = codes "arities differ"
+why_text why.NeedsEquality = codes "type does not admit equality"
+why_text why.BadRealization = codes "datatype needs a type name"
+why_text why.LateUnit = codes "identifier was used for an external type"
+why_text why.TypeTooLarge = codes "type has more than 2000 nodes"
+why_text why.TypeTooHigh = codes "type is higher than 200"
+why_text why.NormalTooLarge = codes "normal form has more than 8000 nodes"
+why_text why.TooManyMembers = codes "more than 100000 members"
+why_text why.LibraryTooLarge = codes "library is too large"
+why_text why.NotBuilt = codes "not built yet"
+
 -- what is said of a fault
 abbrev pub fault_text : Fault → List ℕ
 fault_text fault.BadByte = codes "unexpected byte"
@@ -38,11 +60,8 @@ fault_text fault.OpenComment = codes "comment is not closed"
 fault_text fault.LongName = codes "name is longer than 255 bytes"
 fault_text fault.Syntax = codes "syntax error"
 fault_text fault.TooDeep = codes "nesting is too deep"
-fault_text fault.NotBuilt = codes "not built yet"
-
--- the query is longer than a source may be
-abbrev pub too_large : List ℕ
-too_large = codes "query is too large"
+fault_text (fault.Elab why) = why_text why
+fault_text fault.TooLarge = codes "query is too large"
 
 -- a refusal in a source of this name, at a line and a column
 abbrev pub refusal_at : List ℕ → ℕ → ℕ → List ℕ → List ℕ

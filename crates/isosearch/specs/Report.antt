@@ -29,6 +29,6 @@ member_line names member = kind_word member.kind ++ codes " " ++ member.path ++ 
 abbrev pub member_lines : List TypeName → List Member → List ℕ
 member_lines names members = concat (map (member_line names) members)
 
--- the lines of the hits, and last how many they are
+-- the lines of the members, and last how many they are
 abbrev pub report : List TypeName → List Member → List ℕ
-report names hits = member_lines names hits ++ decimal (length hits) ++ codes " found\n"
+report names members = member_lines names members ++ decimal (length members) ++ codes " found\n"

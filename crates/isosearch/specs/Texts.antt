@@ -1,8 +1,8 @@
--- Sets of texts.
-use Rattle.std.specs.Prelude.{List, ℕ, Bool, bytes_eq}
-use Rattle.std.specs.HashSet.{contains_by}
-use Rattle.isosearch.specs.declared.texts.Texts.{Texts}
+-- The texts of a source's tokens.
+use Rattle.std.specs.Prelude.{ℕ, List}
+use Rattle.sig_elab.specs.Sources.{texts_of}
+use Rattle.isosearch.specs.declared.source.Source.{Source}
 
--- whether the set has the text
-abbrev pub has : Texts → List ℕ → Bool
-has set text = contains_by (λ k. bytes_eq text k.now) set.texts
+-- the texts of all tokens
+abbrev pub texts : Source → List (List ℕ)
+texts source = texts_of source.bytes.now source.tokens.now

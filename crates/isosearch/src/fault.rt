@@ -1,10 +1,11 @@
 // Why a text is refused.
 ghost use Rattle.std.specs.Prelude.{◌≡◌};
-ghost use Rattle.isosearch.specs.Lines.{fault_text};
+ghost use Rattle.isosearch.specs.Lines.{fault_text, why_text as the_why_text};
 ghost use Rattle.isosearch.specs.Stages.{of_lexer};
 ghost use Rattle.isosearch.specs.declared.fault.SourceRefusal.TheVariants as refusal;
 
 use sig_base::NoMemory;
+use sig_elab::Why;
 use sml_lexer::LexRefusal;
 
 /// What is wrong with a file or a query, at a place that is told beside it.
@@ -20,8 +21,10 @@ pub enum Fault {
     Syntax,
     /// A `(`, a `{` or a `sig` stands there, with 200 of them open before it.
     TooDeep,
-    /// A form begins there that isn't built yet.
-    NotBuilt,
+    /// A condition of elaboration fails there.
+    Elab(Why),
+    /// The query has too many bytes or nodes.
+    TooLarge,
 }
 
 /// Why a text has no meaning.
@@ -40,6 +43,19 @@ impl From<NoMemory> for SourceRefusal {
     }
 }
 
+impl From<LexRefusal> for SourceRefusal {
+    ghost from_gives = { λ refusal r. r ≡ of_lexer refusal };
+
+    fn from(refusal: LexRefusal) -> SourceRefusal {
+        match refusal {
+            LexRefusal::BadByte(place) => SourceRefusal::Refused(Fault::BadByte, place),
+            LexRefusal::OpenComment(place) => SourceRefusal::Refused(Fault::OpenComment, place),
+            LexRefusal::LongName(place) => SourceRefusal::Refused(Fault::LongName, place),
+            LexRefusal::NoMemory => SourceRefusal::NoMemory,
+        }
+    }
+}
+
 impl Fault {
     /// What is said of it on standard error.
     pub fn text(self) -> &'static str
@@ -51,20 +67,32 @@ impl Fault {
             Fault::LongName => "name is longer than 255 bytes",
             Fault::Syntax => "syntax error",
             Fault::TooDeep => "nesting is too deep",
-            Fault::NotBuilt => "not built yet",
+            Fault::Elab(why) => why_text(why),
+            Fault::TooLarge => "query is too large",
         }
     }
 }
 
-impl From<LexRefusal> for SourceRefusal {
-    ghost from_gives = { λ refusal r. r ≡ of_lexer refusal };
-
-    fn from(refusal: LexRefusal) -> SourceRefusal {
-        match refusal {
-            LexRefusal::BadByte(place) => SourceRefusal::Refused(Fault::BadByte, place),
-            LexRefusal::OpenComment(place) => SourceRefusal::Refused(Fault::OpenComment, place),
-            LexRefusal::LongName(place) => SourceRefusal::Refused(Fault::LongName, place),
-            LexRefusal::NoMemory => SourceRefusal::NoMemory,
-        }
+fn why_text(why: Why) -> &'static str
+    ensures { result.now ≡ the_why_text why }
+{
+    match why {
+        Why::Unbound => "unbound identifier",
+        Why::UnboundSignature => "unbound signature",
+        Why::WrongArity => "wrong number of type arguments",
+        Why::Duplicate => "described twice",
+        Why::FreeVariable => "type variable is not a parameter",
+        Why::RepeatedParameter => "type parameter repeated",
+        Why::NotFlexible => "type is not flexible",
+        Why::ArityClash => "arities differ",
+        Why::NeedsEquality => "type does not admit equality",
+        Why::BadRealization => "datatype needs a type name",
+        Why::LateUnit => "identifier was used for an external type",
+        Why::TypeTooLarge => "type has more than 2000 nodes",
+        Why::TypeTooHigh => "type is higher than 200",
+        Why::NormalTooLarge => "normal form has more than 8000 nodes",
+        Why::TooManyMembers => "more than 100000 members",
+        Why::LibraryTooLarge => "library is too large",
+        Why::NotBuilt => "not built yet",
     }
 }

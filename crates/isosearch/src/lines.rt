@@ -1,7 +1,7 @@
 // The lines for standard error. None of them takes memory.
 ghost use Rattle.std.specs.Prelude.{◌++◌, map};
 ghost use Rattle.std.specs.List.{concat};
-ghost use Rattle.isosearch.specs.Lines.{Says, fault_text, no_memory_line, not_read_line, not_written_line, query_name, refusal_at, too_large, too_long_line, usage_line};
+ghost use Rattle.isosearch.specs.Lines.{Says, fault_text, no_memory_line, not_read_line, not_written_line, query_name, refusal_at, too_long_line, usage_line};
 
 use crate::decimal::Decimal;
 use crate::fault::Fault;
@@ -99,16 +99,4 @@ pub fn bad_query<E: Sink>(err: &mut E, fault: Fault, at: LineCol)
     ensures { Says (E.written err.old) (E.written err.new) (E.faults err.old) (E.faults err.new) (refusal_at query_name at.line at.col (fault_text fault)) }
 {
     refusal(err, "query", at, fault.text());
-}
-
-/// The query is longer than a source may be.
-pub fn query_too_large<E: Sink>(err: &mut E)
-    ensures { Says (E.written err.old) (E.written err.new) (E.faults err.old) (E.faults err.new) (refusal_at query_name 1 1 too_large) }
-{
-    refusal(
-        err,
-        "query",
-        LineCol { line: 1, col: 1 },
-        "query is too large",
-    );
 }

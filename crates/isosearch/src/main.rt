@@ -2,14 +2,12 @@
 #![tactic(auto)]
 
 mod decimal;
-mod describing;
-mod elaborate;
 mod fault;
-mod forms;
 mod laws;
 mod library;
 mod lines;
 mod query;
+mod query_types;
 mod report;
 mod run;
 mod source;
@@ -17,7 +15,6 @@ mod stages;
 #[cfg(test)]
 mod tests;
 mod texts;
-mod variables;
 mod words;
 
 use crate::run::run;

@@ -1,28 +1,37 @@
 // The scheme that a query asks for.
-ghost use Rattle.std.specs.Prelude.{◌≤◌, length, IfOk, IfErr};
+ghost use Rattle.std.specs.Prelude.{◌≡◌, ◌≤◌, length, IfOk, IfErr};
 ghost use Rattle.sml_lexer.specs.Tokens.{tokens as tokens_of};
+ghost use Rattle.sig_elab.specs.Sources.{texts_of};
 ghost use Rattle.type_core.specs.Schemes.{IsScheme};
-ghost use Rattle.isosearch.specs.Query.{IsQuery, queries};
-ghost use Rattle.isosearch.specs.Refusals.{RefusesSource};
+ghost use Rattle.isosearch.specs.Query.{Asks, asked, queries};
+ghost use Rattle.isosearch.specs.Stages.{IsWithin, Reads, Tells, placed};
 
-use crate::elaborate::scheme;
 use crate::fault::{Fault, SourceRefusal};
-use crate::forms::is_accepted;
+use crate::query_types::{is_built, size, type_of};
 use crate::source::Source;
 use crate::stages::{no_phrase, start_of};
-use crate::variables::first_places;
+use sig_elab::Why;
 use sml_lexer::{Token, lex};
 use std::alloc::Global;
-use ty_parser::parse_type;
-use type_core::Scheme;
+use ty_parser::{TyExp, parse_type};
+use type_core::{Scheme, close, normal_size};
+
+/// The greatest number of bytes in a file or a query.
+pub const MAX_SOURCE: u32 = 4_194_304;
+
+const MAX_SIZE: u64 = 200;
+
+const MAX_NORMAL_SIZE: u64 = 8_000;
 
 /// The scheme of a query, which is a type; `Refused` comes exactly where the query is refused.
 pub fn read_query(alloc: Global, bytes: &[u8]) -> Result<Scheme, SourceRefusal>
-    requires size { length bytes.now ≤ 4194304 }
-    ensures query { IfOk result (λ scheme. IsQuery bytes.now scheme) }
+    ensures value { Tells (Asks bytes.now) result }
     ensures scheme { IfOk result IsScheme }
-    ensures refusal { IfErr result (λ r. RefusesSource queries bytes.now r) }
+    ensures within { IfErr result (λ r. IsWithin bytes.now r) }
 {
+    if bytes.len() > MAX_SOURCE as usize {
+        return Err(SourceRefusal::Refused(Fault::TooLarge, 0));
+    }
     match lex(alloc, bytes) {
         Ok(tokens) => query_of(alloc, bytes, tokens.as_slice()),
         Err(refusal) => Err(SourceRefusal::from(refusal)),
@@ -33,20 +42,41 @@ pub fn read_query(alloc: Global, bytes: &[u8]) -> Result<Scheme, SourceRefusal>
 fn query_of(alloc: Global, bytes: &[u8], tokens: &[Token]) -> Result<Scheme, SourceRefusal>
     requires size { length bytes.now ≤ 4194304 }
     requires tokens { tokens_of bytes.now tokens.now }
-    ensures query { IfOk result (λ scheme. IsQuery bytes.now scheme) }
+    ensures value { Tells (Reads queries bytes.now) result }
     ensures scheme { IfOk result IsScheme }
-    ensures refusal { IfErr result (λ r. RefusesSource queries bytes.now r) }
+    ensures within { IfErr result (λ r. IsWithin bytes.now r) }
 {
     match parse_type(alloc, bytes, tokens) {
-        Ok(parsed) => {
-            let firsts = first_places(alloc, bytes, tokens)?;
-            let source = Source::new(bytes, tokens, &firsts);
-            if !is_accepted(&parsed.ty, &source) {
-                return Err(SourceRefusal::Refused(Fault::NotBuilt, start_of(bytes, tokens, 0)));
-            }
-            let scheme = scheme(alloc, &source, &parsed.ty)?;
-            Ok(scheme)
-        }
+        Ok(parsed) => scheme_of(alloc, bytes, tokens, &parsed.ty),
         Err(refusal) => Err(no_phrase(bytes, tokens, refusal)),
     }
+}
+
+// The scheme of a query that is this type.
+fn scheme_of(
+    alloc: Global,
+    bytes: &[u8],
+    tokens: &[Token],
+    e: &TyExp,
+) -> Result<Scheme, SourceRefusal>
+    requires size { length bytes.now ≤ 4194304 }
+    requires tokens { tokens_of bytes.now tokens.now }
+    ensures value { Tells (λ r. placed bytes.now tokens.now (asked (texts_of bytes.now tokens.now) e.now) ≡ r) result }
+    ensures scheme { IfOk result IsScheme }
+    ensures within { IfErr result (λ r. IsWithin bytes.now r) }
+{
+    let source = Source::new(bytes, tokens);
+    let first = start_of(bytes, tokens, 0);
+    if !is_built(e, &source) {
+        return Err(SourceRefusal::Refused(Fault::Elab(Why::NotBuilt), first));
+    }
+    if size(e) > MAX_SIZE {
+        return Err(SourceRefusal::Refused(Fault::TooLarge, first));
+    }
+    let t = type_of(alloc, &source, e)?;
+    if normal_size(&t) > MAX_NORMAL_SIZE {
+        return Err(SourceRefusal::Refused(Fault::Elab(Why::NormalTooLarge), first));
+    }
+    let scheme = close(alloc, &t)?;
+    Ok(scheme)
 }

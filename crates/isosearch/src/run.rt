@@ -1,30 +1,26 @@
 // The command, over any files and sinks.
-ghost use Rattle.std.specs.Prelude.{◌≡◌, ◌↔◌, ◌⊎◌, ◌≤◌, length, map, string_bytes, IfOk, IfErr, IfSome, IsErrOf, IsNone};
+ghost use Rattle.std.specs.Prelude.{◌≡◌, ◌↔◌, ◌⊎◌, ◌≤◌, ℕ, List, Some, Ok, Err, map, string_bytes, IfOk, IfErr, IfSome, IsErrOf, IsNone};
 ghost use Rattle.std.specs.Io.KnownBytes.{Appends};
 ghost use Rattle.sig_base.specs.Faults.{NoneFell, Rose};
 ghost use Rattle.sig_base.specs.Writing.{AppendsPart};
-ghost use Rattle.isosearch.specs.Ending.{Answers, Completes, EndsAsDue, EndsExactly, EndsShort, Finds, IsAnswered, IsCutShort, IsDecided, IsRefused, IsReport, Refuses, outcome_of, reported};
-ghost use Rattle.isosearch.specs.Library.{AreSchemes};
+ghost use Rattle.isosearch.specs.Ending.{Completes, Decides, EndsAsDue, EndsExactly, EndsShort, IsAnswered, IsCutShort, IsDecided, IsRefused, outcome_of, reported};
 ghost use Rattle.isosearch.specs.Lines.{Says, no_memory_line, not_read_line, not_written_line, usage_line};
-ghost use Rattle.isosearch.specs.Outcome.{Due};
-ghost use Rattle.isosearch.specs.Refusals.{QueryFails, SearchFails};
+ghost use Rattle.isosearch.specs.Outcome.{Answers, Due, Loads};
 ghost use Rattle.isosearch.specs.Words.{command_of as the_command, given};
-ghost use Rattle.type_core.specs.Schemes.{IsScheme};
+ghost use Rattle.isosearch.specs.declared.run.Refusal.TheVariants as refusal;
+ghost use Rattle.type_core.specs.ValidLibrary.{IsValidLibrary};
 
 use crate::fault::{Fault, SourceRefusal};
 use crate::laws::one_outcome;
 use crate::library::read_library;
 use crate::lines;
-use crate::query::read_query;
-use crate::report::{Report, report_hits};
+use crate::query::{MAX_SOURCE, read_query};
+use crate::report::{Report, report_all, report_hits};
 use crate::words::{Command, command_of};
 use sig_base::{Files, NoMemory, ReadRefusal, Sink, read_whole, write_all};
 use sml_lexer::{LineCol, position};
 use std::alloc::Global;
-use type_core::{Member, Scheme, initial_names};
-
-// The greatest number of bytes in a file or a query.
-const MAX_SOURCE: u32 = 4_194_304;
+use type_core::Library;
 
 /// Why there is no report.
 #[derive(Clone, Copy, Debug, PartialEq, Eq)]
@@ -35,34 +31,52 @@ pub enum Refusal {
     File(Fault, LineCol),
     /// This is wrong with the query, at a line and a column.
     Query(Fault, LineCol),
-    QueryTooLarge,
     NoMemory,
 }
 
-// The report of a scheme among members.
-fn report_of(alloc: Global, members: &[Member], scheme: &Scheme) -> Result<Report, NoMemory>
-    requires schemes { AreSchemes members.now }
-    requires query { IsScheme scheme.now }
-    ensures { IfOk result (λ r. IsReport scheme.now members.now r) }
-{
-    let names = initial_names(alloc)?;
-    report_hits(alloc, &names, members, scheme)
+impl From<NoMemory> for Refusal {
+    ghost from_gives = { λ _ r. r ≡ refusal.NoMemory };
+
+    fn from(_: NoMemory) -> Refusal {
+        Refusal::NoMemory
+    }
 }
 
-// The report of a query among members.
-fn answer(alloc: Global, members: &[Member], query: &str) -> Result<Report, Refusal>
-    requires schemes { AreSchemes members.now }
-    ensures found { IfOk result (λ r. Answers query.now members.now r) }
-    ensures refusal { IfErr result (λ r. QueryFails query.now r) }
+// The library of the file at this path.
+fn load<F: Files>(alloc: Global, path: &str, files: &mut F) -> Result<Library, Refusal>
+    ensures loaded { IfOk result (λ library. Loads (F.files files.old) path.now (Ok library)) }
+    ensures valid { IfOk result IsValidLibrary }
+    ensures refusal { IfErr result (λ r. Decides (λ outcome. Loads (F.files files.old) path.now (Err outcome)) path.now r) }
+    ensures fault { IsErrOf result Refusal.ReadFault → Rose (F.read_faults files.old path.now) (F.read_faults files.new path.now) }
+    ensures counts { NoneFell (F.read_faults files.old) (F.read_faults files.new) }
+    ensures kept { F.files files.new ≡ F.files files.old }
 {
-    if query.len() > MAX_SOURCE as usize {
-        return Err(Refusal::QueryTooLarge);
-    }
-    match read_query(alloc, query.as_bytes()) {
-        Ok(scheme) => match report_of(alloc, members, &scheme) {
-            Ok(report) => Ok(report),
-            Err(_) => Err(Refusal::NoMemory),
+    match read_whole(alloc, files, path, MAX_SOURCE) {
+        Ok(bytes) => match read_library(alloc, bytes.as_slice()) {
+            Ok(library) => Ok(library),
+            Err(SourceRefusal::Refused(fault, place)) => {
+                Err(Refusal::File(fault, position(bytes.as_slice(), place)))
+            }
+            Err(SourceRefusal::NoMemory) => Err(Refusal::NoMemory),
         },
+        Err(ReadRefusal::ReadFault) => Err(Refusal::ReadFault),
+        Err(ReadRefusal::TooLong) => Err(Refusal::TooLong),
+        Err(ReadRefusal::NoMemory) => Err(Refusal::NoMemory),
+    }
+}
+
+// The report of a query over a library.
+fn find(alloc: Global, library: &Library, query: &str) -> Result<Report, Refusal>
+    requires valid { IsValidLibrary library.now }
+    ensures found { IfOk result (λ r. Answers library.now (Some query.now) (reported r)) }
+    ensures refusal { (path : List ℕ) → IfErr result (λ r. Decides (Answers library.now (Some query.now)) path r) }
+    ensures fault { IsErrOf result Refusal.ReadFault → ⊥ }
+{
+    match read_query(alloc, query.as_bytes()) {
+        Ok(scheme) => {
+            let report = report_hits(alloc, library, &scheme)?;
+            Ok(report)
+        }
         Err(SourceRefusal::Refused(fault, place)) => {
             Err(Refusal::Query(fault, position(query.as_bytes(), place)))
         }
@@ -70,61 +84,46 @@ fn answer(alloc: Global, members: &[Member], query: &str) -> Result<Report, Refu
     }
 }
 
-// The report of a query in a file of these bytes.
-fn search_in(alloc: Global, bytes: &[u8], query: &str) -> Result<Report, Refusal>
-    requires size { length bytes.now ≤ 4194304 }
-    ensures found { IfOk result (λ r. Finds bytes.now query.now r) }
-    ensures refusal { IfErr result (λ r. SearchFails bytes.now query.now r) }
-{
-    match read_library(alloc, bytes) {
-        Ok(members) => answer(alloc, members.as_slice(), query),
-        Err(SourceRefusal::Refused(fault, place)) => {
-            Err(Refusal::File(fault, position(bytes, place)))
-        }
-        Err(SourceRefusal::NoMemory) => Err(Refusal::NoMemory),
-    }
-}
-
 // The report that a command asks for.
-fn search<F: Files>(alloc: Global, command: Command<'_>, files: &mut F) -> Result<Report, Refusal>
+fn answer<F: Files>(alloc: Global, command: Command<'_>, files: &mut F) -> Result<Report, Refusal>
     ensures found { IfOk result (λ r. Due (F.files files.old) (given command.entry) (reported r)) }
-    ensures refusal { IfErr result (λ r. Refuses (F.files files.old) (given command.entry) r) }
+    ensures refusal { IfErr result (λ r. Decides (Due (F.files files.old) (given command.entry)) command.entry.file.now r) }
     ensures fault { IsErrOf result Refusal.ReadFault → Rose (F.read_faults files.old command.entry.file.now) (F.read_faults files.new command.entry.file.now) }
     ensures counts { NoneFell (F.read_faults files.old) (F.read_faults files.new) }
     ensures kept { F.files files.new ≡ F.files files.old }
 {
-    match read_whole(alloc, files, command.file, MAX_SOURCE) {
-        Ok(bytes) => search_in(alloc, bytes.as_slice(), command.query),
-        Err(ReadRefusal::ReadFault) => Err(Refusal::ReadFault),
-        Err(ReadRefusal::TooLong) => Err(Refusal::TooLong),
-        Err(ReadRefusal::NoMemory) => Err(Refusal::NoMemory),
+    match load(alloc, command.file, files) {
+        Ok(library) => match command.query {
+            Some(query) => find(alloc, &library, query),
+            None => {
+                let report = report_all(alloc, &library)?;
+                Ok(report)
+            }
+        },
+        Err(refusal) => Err(refusal),
     }
 }
 
 // Says why there is no report, and answers the status.
-fn refuse<E: Sink>(err: &mut E, command: Command<'_>, refusal: Refusal) -> u8
-    ensures status { result ≡ (outcome_of (given command.entry) refusal).status }
-    ensures line { Says (E.written err.old) (E.written err.new) (E.faults err.old) (E.faults err.new) (outcome_of (given command.entry) refusal).err }
+fn refuse<E: Sink>(err: &mut E, file: &str, refusal: Refusal) -> u8
+    ensures status { result ≡ (outcome_of file.now refusal).status }
+    ensures line { Says (E.written err.old) (E.written err.new) (E.faults err.old) (E.faults err.new) (outcome_of file.now refusal).err }
 {
     match refusal {
         Refusal::ReadFault => {
-            lines::not_read(err, command.file);
+            lines::not_read(err, file);
             5
         }
         Refusal::TooLong => {
-            lines::too_long(err, command.file);
+            lines::too_long(err, file);
             3
         }
         Refusal::File(fault, at) => {
-            lines::bad_file(err, command.file, fault, at);
+            lines::bad_file(err, file, fault, at);
             3
         }
         Refusal::Query(fault, at) => {
             lines::bad_query(err, fault, at);
-            4
-        }
-        Refusal::QueryTooLarge => {
-            lines::query_too_large(err);
             4
         }
         Refusal::NoMemory => {
@@ -143,7 +142,7 @@ fn print<O: Sink, E: Sink>(report: &Report, out: &mut O, err: &mut E) -> u8
     ensures line { result ≡ 6 → Says (E.written err.old) (E.written err.new) (E.faults err.old) (E.faults err.new) not_written_line }
 {
     match write_all(out, report.text.as_slice()) {
-        Ok(()) => { if report.hits == 0 { 1 } else { 0 } }
+        Ok(()) => { if report.found_none { 1 } else { 0 } }
         Err(_) => {
             lines::not_written(err);
             6
@@ -151,9 +150,9 @@ fn print<O: Sink, E: Sink>(report: &Report, out: &mut O, err: &mut E) -> u8
     }
 }
 
-/// Does what the words ask, and answers the status: 0 with a hit, 1 without, 2 where the words are no
-/// command, 3 where the file is refused, 4 where the query is, 5 where the file can't be read, 6 where the
-/// output can't be written, 7 where memory is wanted.
+/// Does what the words ask, and answers the status: 0 for a list and for a search with a hit, 1 for a search
+/// without, 2 where the words are no command, 3 where the file is refused, 4 where the query is, 5 where the
+/// file can't be read, 6 where the output can't be written, 7 where memory is wanted.
 pub fn run<F: Files, O: Sink, E: Sink>(
     alloc: Global,
     words: &[String],
@@ -191,8 +190,8 @@ pub fn run<F: Files, O: Sink, E: Sink>(
         return 2;
     };
     one_outcome();
-    match search(alloc, command, files) {
+    match answer(alloc, command, files) {
         Ok(report) => print(&report, out, err),
-        Err(refusal) => refuse(err, command, refusal),
+        Err(refusal) => refuse(err, command.file, refusal),
     }
 }

@@ -1,15 +1,14 @@
 // A text with its tokens.
-ghost use Rattle.std.specs.Prelude.{◌≡◌};
-ghost use Rattle.isosearch.specs.Elaboration.{AreWithin, texts_of, first_places};
+ghost use Rattle.std.specs.Prelude.{◌≤◌, length};
+ghost use Rattle.sig_elab.specs.Sources.{AreWithin};
 
 use sml_lexer::Token;
 
-/// A text, its tokens, and for each of them the number of the first with the same text.
+/// A text and its tokens.
 #[derive(Clone, Copy)]
 pub struct Source<'a> {
     pub bytes: &'a [u8],
     pub tokens: &'a [Token],
-    pub firsts: &'a [u32],
     ghost within: { AreWithin bytes.now tokens.now },
-    ghost first: { firsts.now ≡ first_places (texts_of bytes.now tokens.now) },
+    ghost few: { length tokens.now ≤ 4194304 },
 }

@@ -1,10 +1,8 @@
 // What is wrong with a text, and at which byte.
 ghost use Rattle.std.specs.Prelude.{◌≡◌, ◌≤◌, length};
 ghost use Rattle.sml_lexer.specs.Tokens.{tokens as tokens_of};
-ghost use Rattle.isosearch.specs.Describing.{of_form};
 ghost use Rattle.isosearch.specs.Stages.{IsWithin, of_parser, start_of as the_start_of};
 
-use crate::describing::FormRefusal;
 use crate::fault::{Fault, SourceRefusal};
 use sml_lexer::{Token, spans_inside};
 use ty_parser::ParseRefusal;
@@ -39,20 +37,5 @@ pub fn no_phrase(bytes: &[u8], tokens: &[Token], refusal: ParseRefusal) -> Sourc
             SourceRefusal::Refused(Fault::TooDeep, start_of(bytes, tokens, k))
         }
         ParseRefusal::NoMemory => SourceRefusal::NoMemory,
-    }
-}
-
-/// What is wrong with a text one of whose forms isn't built yet.
-pub fn no_form(bytes: &[u8], tokens: &[Token], refusal: FormRefusal) -> SourceRefusal
-    requires size { length bytes.now ≤ 4194304 }
-    requires tokens { tokens_of bytes.now tokens.now }
-    ensures value { result ≡ of_form bytes.now tokens.now refusal }
-    ensures within { IsWithin bytes.now result }
-{
-    match refusal {
-        FormRefusal::NotBuilt(k) => {
-            SourceRefusal::Refused(Fault::NotBuilt, start_of(bytes, tokens, k))
-        }
-        FormRefusal::NoMemory => SourceRefusal::NoMemory,
     }
 }

@@ -16,23 +16,6 @@ const L: &str = "signature L = sig
 end
 ";
 
-const M: &str = "signature M = sig
-  val first : 'x -> 'x
-  val marked : ''x -> ''x
-  val other : ('p) -> 'p
-  val later : unit -> 'x list
-  val last : 'y->'y
-end
-";
-
-const P: &str = "signature P = sig
-  val left : (int * int) * int
-  val right : int * (int * int)
-  val flat : int * int * int
-  val list : (int -> int) list -> ((int -> int) -> int * int)
-end
-";
-
 // One file, and the numbers of the calls that fail: a read, a put to the output and a put to standard
 // error. No call has the number 0.
 #[derive(Clone, Copy)]
@@ -119,30 +102,66 @@ fn ends(
 #[test]
 fn tells_commands(rt: HostRuntime) -> Result<(), Fail> {
     let rows = [
-        (["same", "int"].as_slice(), 2, "", USAGE),
-        (&[], 2, "", USAGE),
-        (&["same"], 2, "", USAGE),
-        (&["same", "int", "L.sig", "L.sig"], 2, "", USAGE),
-        (&["", "int", "L.sig"], 2, "", USAGE),
-        (&["same ", "int", "L.sig"], 2, "", USAGE),
-        (&["list", "int", "L.sig"], 2, "", USAGE),
-        (&["same", "->", "L.sig"], 2, "", USAGE),
-        (&["same", "--names", "L.sig"], 2, "", USAGE),
-        (&["same", "int", "-"], 2, "", USAGE),
-        (&["same", "int", "M.sig"], 5, "", "M.sig: cannot be read\n"),
-        (&["same", "int", ""], 5, "", ": cannot be read\n"),
-        (&["same", "int", "L.sig"], 1, "0 found\n", ""),
+        ([].as_slice(), 2, USAGE),
+        (&["list"], 2, USAGE),
+        (&["list", "-"], 2, USAGE),
+        (&["list", "L.sig", "L.sig"], 2, USAGE),
+        (&["same", "int"], 2, USAGE),
+        (&["same", "-", "L.sig"], 2, USAGE),
+        (&["iso", "int", "L.sig"], 2, USAGE),
+        (&["list", "M.sig"], 5, "M.sig: cannot be read\n"),
+        (&["same", "int ->", "M.sig"], 5, "M.sig: cannot be read\n"),
     ];
-    for (words, status, out, err) in rows {
+    for (words, status, err) in rows {
         let outside = sound("L.sig", L);
         assert!(rt;
-            ends(rt.alloc(), words, outside, status, out, err)?,
+            ends(rt.alloc(), words, outside, status, "", err)?,
             "{words:?}"
         );
     }
     Ok(())
 }
 
+// A file, and the list of its members.
+#[test]
+fn lists_members(rt: HostRuntime) -> Result<(), Fail> {
+    let rows = [
+        ("", "0 found\n"),
+        ("(* (* a *) b *)", "0 found\n"),
+        (
+            "signature O = sig
+datatype option = datatype option
+datatype 'a tree = Leaf | Node of 'a tree * 'a * 'a tree
+exception Empty of string
+end",
+            "con O.NONE : 'a option
+con O.SOME : 'a -> 'a option
+con O.Leaf : 'a O.tree
+con O.Node : 'a O.tree * 'a * 'a O.tree -> 'a O.tree
+exn O.Empty : string -> exn
+5 found
+",
+        ),
+        (
+            "signature A = sig type ('a, 'b) map = ('b * 'a) list eqtype t val m : (t, 'x) map end
+signature B = sig type t and u = int val r : {b : u, 2 : t, a : 'y -> ''z} end",
+            "val A.m : ('a * A.t) list
+val B.r : {2 : B.t, a : 'a -> ''b, b : int}
+2 found
+",
+        ),
+    ];
+    for (text, out) in rows {
+        let words = ["list", "F"];
+        assert!(rt;
+            ends(rt.alloc(), &words, sound("F", text), 0, out, "")?,
+            "{text}"
+        );
+    }
+    Ok(())
+}
+
+// A file, a query, and its hits.
 #[test]
 fn finds_values(rt: HostRuntime) -> Result<(), Fail> {
     let rows = [
@@ -153,56 +172,14 @@ fn finds_values(rt: HostRuntime) -> Result<(), Fail> {
         ),
         (L, "int -> int -> int", "0 found\n"),
         (
-            M,
+            "signature M = sig val f : 'x -> 'x datatype t = A of int | B type u = int val g : ''x -> ''x exception E val h : 'y -> 'y end",
             "'a -> 'a",
-            "val M.first : 'a -> 'a\nval M.other : 'a -> 'a\nval M.last : 'a -> 'a\n3 found\n",
-        ),
-        (M, "''->\t(\n'')", "val M.marked : ''a -> ''a\n1 found\n"),
-        (M, "'a -> 'b", "0 found\n"),
-        (
-            M,
-            "(unit) -> 'z list",
-            "val M.later : unit -> 'a list\n1 found\n",
-        ),
-        (M, "unit -> ''z list", "0 found\n"),
-        (
-            P,
-            "(int * int) * int",
-            "val P.left : (int * int) * int\n1 found\n",
+            "val M.f : 'a -> 'a\nval M.h : 'a -> 'a\n2 found\n",
         ),
         (
-            P,
-            "int * (int * int)",
-            "val P.right : int * (int * int)\n1 found\n",
-        ),
-        (
-            P,
-            "int * int * int",
-            "val P.flat : int * int * int\n1 found\n",
-        ),
-        (
-            P,
-            "(int -> int) list -> (int -> int) -> int * int",
-            "val P.list : (int -> int) list -> (int -> int) -> int * int\n1 found\n",
-        ),
-        (
-            "signature W = sig val w : 'z*'y*'x*'w*'v*'u*'t*'s*'r*'q*'p*'o*'n*'m*'l*'k*'j*'i*'h*'g*'f*'e*'d*'c*'b*'a*''aa*'bb end",
-            "'a*'b*'c*'d*'e*'f*'g*'h*'i*'j*'k*'l*'m*'n*'o*'p*'q*'r*'s*'t*'u*'v*'w*'x*'y*'z*''y1*'z1",
-            "val W.w : 'a * 'b * 'c * 'd * 'e * 'f * 'g * 'h * 'i * 'j * 'k * 'l * 'm * 'n * 'o * 'p * 'q * 'r * 's * 't * 'u * 'v * 'w * 'x * 'y * 'z * ''a1 * 'b1\n1 found\n",
-        ),
-        (
-            "signature int = sig val a:int val b:int val c:int val d:int val e:int val f:int val g:int val h:int val i:int val list:int end",
-            "int",
-            "val int.a : int\nval int.b : int\nval int.c : int\nval int.d : int\nval int.e : int\nval int.f : int\nval int.g : int\nval int.h : int\nval int.i : int\nval int.list : int\n10 found\n",
-        ),
-        ("signature S = sig end", "int", "0 found\n"),
-        // A file without declarations, comments, `;`, `and`, and values of any identifier.
-        ("", "int", "0 found\n"),
-        (" ; (* nothing (* at all *) *);", "int", "0 found\n"),
-        (
-            "(* *) signature S = sig val a : int and b : (* *) bool; val = : int val <= : int and * : int end;",
-            "(* (* *) *) int",
-            "val S.a : int\nval S.= : int\nval S.<= : int\nval S.* : int\n4 found\n",
+            "signature P = sig type u = int val left : (int * u) * int val flat : int * u * unit list end",
+            "int * int * (unit) list",
+            "val P.flat : int * int * unit list\n1 found\n",
         ),
     ];
     for (text, query, out) in rows {
@@ -216,320 +193,227 @@ fn finds_values(rt: HostRuntime) -> Result<(), Fail> {
     Ok(())
 }
 
-// A file S.sig with this query, the status, and the place and the text of the line.
+// A file S.sig, and what is wrong with it.
 #[test]
-fn refuses_files_and_queries(rt: HostRuntime) -> Result<(), Fail> {
+fn refuses_files(rt: HostRuntime) -> Result<(), Fail> {
     let rows = [
-        // Each fault of tokens and of phrases.
+        ("(* (* *)", "1:1: comment is not closed"),
+        ("signature S = sig\nval x : 0 end", "2:9: unexpected byte"),
+        ("signature S = sig", "1:18: syntax error"),
         (
-            "signature S = sig \u{e9} end",
-            "int",
-            3,
-            "S.sig:1:19: unexpected byte",
+            "signature S = sig val x : int val x : bool end",
+            "1:35: described twice",
         ),
         (
-            "signature S = sig val x : 0 end",
-            "int",
-            3,
-            "S.sig:1:27: unexpected byte",
-        ),
-        ("(* (* *)", "int", 3, "S.sig:1:1: comment is not closed"),
-        (
-            "signature S =\n\t(*",
-            "int",
-            3,
-            "S.sig:2:2: comment is not closed",
-        ),
-        ("signature S = sig", "int", 3, "S.sig:1:18: syntax error"),
-        (
-            "signature S : sig end",
-            "int",
-            3,
-            "S.sig:1:13: syntax error",
+            "signature S = sig val x : {a : int, a : t} end",
+            "1:37: described twice",
         ),
         (
-            "signature S = sig val x : int val end",
-            "int",
-            3,
-            "S.sig:1:35: syntax error",
+            "signature S = sig end signature S = sig end",
+            "1:33: described twice",
         ),
         (
-            "signature S =\n sig val x :\n\tend",
-            "int",
-            3,
-            "S.sig:3:2: syntax error",
+            "signature S = sig val x : t type t end",
+            "1:27: unbound identifier",
         ),
         (
-            "signature S = sig\r val x : -> end",
-            "int",
-            3,
-            "S.sig:1:28: syntax error",
+            "signature S = sig val x : (int, int) list end",
+            "1:38: wrong number of type arguments",
         ),
         (
-            "structure S = sig end",
-            "int",
-            3,
-            "S.sig:1:13: syntax error",
-        ),
-        (L, "int \u{e9}", 4, "query:1:5: unexpected byte"),
-        (L, "int (*", 4, "query:1:5: comment is not closed"),
-        (L, "int ->", 4, "query:1:7: syntax error"),
-        (L, "", 4, "query:1:1: syntax error"),
-        (L, "(* *)", 4, "query:1:6: syntax error"),
-        (L, "int * -> int", 4, "query:1:7: syntax error"),
-        (L, "int\n-> )", 4, "query:2:4: syntax error"),
-        (L, "(int", 4, "query:1:5: syntax error"),
-        (L, "int)", 4, "query:1:4: syntax error"),
-        // The file comes before the query, and in each the tokens before the phrase before the forms.
-        (
-            "signature S = sig type t end",
-            "int ->",
-            3,
-            "S.sig:1:24: not built yet",
+            "signature D = sig
+type a0 = int * int
+type a1 = a0 * a0
+type a2 = a1 * a1
+type a3 = a2 * a2
+type a4 = a3 * a3
+type a5 = a4 * a4
+type a6 = a5 * a5
+type a7 = a6 * a6
+type a8 = a7 * a7
+type a9 = a8 * a8
+end",
+            "11:11: type has more than 2000 nodes",
         ),
         (
-            "signature sig type t \u{e9}",
-            "int",
-            3,
-            "S.sig:1:22: unexpected byte",
+            "signature S = sig type 'a t = 'b end",
+            "1:31: type variable is not a parameter",
         ),
         (
-            "signature S = sig type t val",
-            "int",
-            3,
-            "S.sig:1:29: syntax error",
+            "signature S = sig exception E of 'a end",
+            "1:34: type variable is not a parameter",
         ),
-        (L, "t -> \u{e9}", 4, "query:1:6: unexpected byte"),
-        (L, "t ->", 4, "query:1:5: syntax error"),
+        (
+            "signature S = sig eqtype ('a, 'b, 'a) t end",
+            "1:35: type parameter repeated",
+        ),
+        ("structure S : sig val x : t end", "1:11: not built yet"),
+        (
+            "signature S = sig val x : int end signature T = S",
+            "1:49: not built yet",
+        ),
+        (
+            "signature S = sig type t end where type t = int",
+            "1:15: not built yet",
+        ),
+        (
+            "signature S = sig structure T : sig end end",
+            "1:29: not built yet",
+        ),
+        ("signature S = sig include A B end", "1:27: not built yet"),
+        (
+            "signature S = sig sharing type t = u end",
+            "1:32: not built yet",
+        ),
+        (
+            "signature S = sig sharing A = B.C end",
+            "1:27: not built yet",
+        ),
+        (
+            "signature S = sig val x : int A.t end",
+            "1:31: not built yet",
+        ),
     ];
-    for (text, query, status, line) in rows {
-        let words = ["same", query, "S.sig"];
-        let err = format!(in rt.alloc(); "{line}\n")?;
-        assert!(rt;
-            ends(rt.alloc(), &words, sound("S.sig", text), status, "", &err)?,
-            "{query} in {text}"
-        );
-    }
-    Ok(())
-}
-
-// The column of a form that isn't built yet, the first in the file.
-#[test]
-fn says_what_is_not_built(rt: HostRuntime) -> Result<(), Fail> {
-    let rows = [
-        // A binding, a specification and a repeated value at the identifier.
-        ("structure S : sig val x : t end", 11),
-        ("structure S :> T", 11),
-        ("signature S = sig val x : int end and T = sig end", 39),
-        ("signature S = sig end signature T = sig end", 33),
-        ("signature S = sig end; structure T : sig end", 34),
-        ("signature S = sig end and T = U signature V = W", 27),
-        ("signature S = sig type t end", 24),
-        ("signature S = sig type ('a, 'b) t = int and u end", 33),
-        ("signature S = sig eqtype 'a t end", 29),
-        ("signature S = sig datatype 'a t = A | B of int end", 31),
-        ("signature S = sig datatype t = datatype A.u end", 28),
-        ("signature S = sig exception E of int and F end", 29),
-        ("signature S = sig structure T : sig val x : t end end", 29),
-        ("signature S = sig val x : int and x : t end", 35),
-        ("signature S = sig val = : int ; val = : bool end", 37),
-        (
-            "signature S = sig val x : int val y : int val x : int end",
-            47,
-        ),
-        // `include` at its first signature expression, `sharing` at its first long identifier.
-        (
-            "signature S = sig include sig type t end where type t = int end",
-            27,
-        ),
-        ("signature S = sig include A B end", 27),
-        (
-            "signature S = sig val x : int sharing type A.t = B.t end",
-            44,
-        ),
-        ("signature S = sig sharing A = B.C end", 27),
-        // A signature expression and a type at the first token.
-        ("signature S = T", 15),
-        ("signature S = T where type t = int", 15),
-        ("signature S = sig type t end where type t = int", 15),
-        ("signature S = sig val x : {a : int} end", 27),
-        ("signature S = sig val x : {} end", 27),
-        ("signature S = sig val x : (int -> t) list end", 27),
-        ("signature S = sig val x : int val y : (t) end", 39),
-        ("signature S = sig val x : list end", 27),
-        ("signature S = sig val x : A.int end", 27),
-        ("signature S = sig val x : int int end", 27),
-        ("signature S = sig val x : int list option end", 27),
-        ("signature S = sig val x : (int, int) list end", 27),
-        ("signature S = sig val x : 'a * {a : int} list end", 27),
-        // The first in the file.
-        ("signature S = sig val x : t type t end", 27),
-        ("signature S = sig type t val x : t end", 24),
-        (
-            "signature S = sig val x : int and y : t and x : int end",
-            39,
-        ),
-        ("signature S = sig val x : t end and T = U", 27),
-    ];
-    for (text, column) in rows {
-        let err = format!(in rt.alloc(); "S.sig:1:{column}: not built yet\n")?;
-        let words = ["same", "int", "S.sig"];
+    for (text, line) in rows {
+        // The file is refused before the query is read.
+        let err = format!(in rt.alloc(); "S.sig:{line}\n")?;
+        let words = ["same", "int ->", "S.sig"];
         assert!(rt;
             ends(rt.alloc(), &words, sound("S.sig", text), 3, "", &err)?,
             "{text}"
         );
     }
-    let queries = [
-        "t",
-        " list",
-        "int option",
-        "int -> {a : int}",
-        "(* *) int int",
-        "'a * A.t",
-    ];
-    let columns = [1, 2, 1, 1, 7, 1];
-    for (query, column) in queries.into_iter().zip(columns) {
-        let err = format!(in rt.alloc(); "query:1:{column}: not built yet\n")?;
-        let words = ["same", query, "L.sig"];
-        assert!(rt;
-            ends(rt.alloc(), &words, sound("L.sig", L), 4, "", &err)?,
-            "{query}"
-        );
-    }
     Ok(())
 }
 
-// A text with a part that stands in it so many times.
-fn repeated(
-    alloc: Global,
-    before: &str,
-    part: &str,
-    times: u32,
-    after: &str,
-) -> Result<String, AllocError> {
-    let mut text = String::from_str(alloc, before)?;
-    for _ in 0..times {
-        text.push_str(part)?;
+// A text of parts, each of which stands in it so many times.
+fn repeated(alloc: Global, parts: &[(&str, u32)]) -> Result<String, AllocError> {
+    let mut text = String::new(alloc);
+    for (part, times) in parts {
+        for _ in 0..*times {
+            text.push_str(part)?;
+        }
     }
-    text.push_str(after)?;
     Ok(text)
 }
 
+// The type of a value in a file Z.sig, and what is wrong with it.
 #[test]
-fn keeps_limits(rt: HostRuntime) -> Result<(), Fail> {
-    let value = "signature Z = sig val x : ";
-    let whole = "signature Z = sig val x : int end";
+fn keeps_limits_of_files(rt: HostRuntime) -> Result<(), Fail> {
     let rows = [
-        ("", " ", 4_194_271, whole, ""),
+        ([("int * ", 1998), ("int", 1)].as_slice(), ""),
         (
-            "",
-            " ",
-            4_194_272,
-            whole,
-            "Z.sig: longer than 4194304 bytes\n",
+            &[("int * ", 1999), ("int", 1)],
+            "1:27: type has more than 2000 nodes",
         ),
-        (value, "word * ", 1998, "int end", ""),
+        (&[("int", 1), (" list", 199)], ""),
         (
-            value,
-            "word * ",
-            1999,
-            "int end",
-            "Z.sig:1:27: not built yet\n",
+            &[("int", 1), (" list", 200)],
+            "1:27: type is higher than 200",
         ),
-        (value, "word -> ", 199, "int end", ""),
+        (&[("int * ", 98), ("int -> int", 1), (" * int", 79)], ""),
         (
-            value,
-            "word -> ",
-            200,
-            "int end",
-            "Z.sig:1:27: not built yet\n",
+            &[("int * ", 125), ("int -> int", 1), (" * int", 62)],
+            "1:27: normal form has more than 8000 nodes",
         ),
-        (value, "(", 199, " end", "Z.sig:1:227: syntax error\n"),
-        (
-            value,
-            "(",
-            200,
-            " end",
-            "Z.sig:1:226: nesting is too deep\n",
-        ),
-        ("signature Z = sig val ", "x", 255, " : int end", ""),
-        (
-            "signature Z = sig val ",
-            "x",
-            256,
-            " : int end",
-            "Z.sig:1:23: name is longer than 255 bytes\n",
-        ),
+        (&[("(", 200)], "1:226: nesting is too deep"),
+        (&[("x", 256)], "1:27: name is longer than 255 bytes"),
     ];
-    for (before, part, times, after, err) in rows {
-        let text = repeated(rt.alloc(), before, part, times, after)?;
-        let words = ["same", "bool", "Z.sig"];
-        let (status, out) = if err.is_empty() {
-            (1, "0 found\n")
+    for (parts, line) in rows {
+        let part = repeated(rt.alloc(), parts)?;
+        let text = format!(in rt.alloc(); "signature Z = sig val x : {part} end")?;
+        let err = format!(in rt.alloc(); "Z.sig:{line}\n")?;
+        let (status, out, err) = if line.is_empty() {
+            (1, "0 found\n", "")
         } else {
-            (3, "")
+            (3, "", err.as_str())
         };
+        let words = ["same", "bool", "Z.sig"];
         assert!(rt;
             ends(rt.alloc(), &words, sound("Z.sig", &text), status, out, err)?,
-            "{times} of {part}"
+            "{line}"
         );
     }
+    let text = repeated(rt.alloc(), &[(" ", 4_194_305)])?;
+    let err = "Z.sig: longer than 4194304 bytes\n";
+    assert!(rt;
+        ends(
+            rt.alloc(),
+            &["list", "Z.sig"],
+            sound("Z.sig", &text),
+            3,
+            "",
+            err
+        )?
+    );
     Ok(())
 }
 
+// A query, and what is wrong with it.
 #[test]
-fn keeps_limits_of_queries(rt: HostRuntime) -> Result<(), Fail> {
+fn refuses_queries(rt: HostRuntime) -> Result<(), Fail> {
     let rows = [
-        ("word * ", 1998, "int", ""),
-        ("word * ", 1999, "int", "query:1:1: not built yet\n"),
-        ("word -> ", 199, "int", ""),
-        ("word -> ", 200, "int", "query:1:1: not built yet\n"),
-        ("(", 200, "", "query:1:201: syntax error\n"),
-        ("(", 201, "", "query:1:201: nesting is too deep\n"),
-        ("x", 256, "", "query:1:1: name is longer than 255 bytes\n"),
-        (" ", 4_194_301, "int", ""),
-        (" ", 4_194_302, "int", "query:1:1: query is too large\n"),
+        ([("int ->", 1)].as_slice(), "1:7: syntax error"),
+        (&[("int\n-> )", 1)], "2:4: syntax error"),
+        (&[("int \u{e9}", 1)], "1:5: unexpected byte"),
+        (&[("int (*", 1)], "1:5: comment is not closed"),
+        (&[("(", 201)], "1:201: nesting is too deep"),
+        (&[("x", 256)], "1:1: name is longer than 255 bytes"),
+        (&[(" 'a * int option", 1)], "1:2: not built yet"),
+        (&[("int * {a : int}", 1)], "1:1: not built yet"),
+        (&[("A.t", 1)], "1:1: not built yet"),
+        (&[("int * ", 198), ("int", 1)], ""),
+        (&[("int * ", 199), ("int", 1)], "1:1: query is too large"),
+        (
+            &[("int * ", 98), ("int -> int", 1), (" * int", 80)],
+            "1:1: normal form has more than 8000 nodes",
+        ),
+        (&[(" ", 4_194_305)], "1:1: query is too large"),
     ];
-    for (part, times, after, err) in rows {
-        let query = repeated(rt.alloc(), "", part, times, after)?;
-        let words = ["same", query.as_str(), "L.sig"];
-        let (status, out) = if err.is_empty() {
-            (1, "0 found\n")
+    for (parts, line) in rows {
+        let query = repeated(rt.alloc(), parts)?;
+        let err = format!(in rt.alloc(); "query:{line}\n")?;
+        let (status, out, err) = if line.is_empty() {
+            (1, "0 found\n", "")
         } else {
-            (4, "")
+            (4, "", err.as_str())
         };
+        let words = ["same", query.as_str(), "L.sig"];
         assert!(rt;
             ends(rt.alloc(), &words, sound("L.sig", L), status, out, err)?,
-            "{times} of {part}"
+            "{line}"
         );
     }
     Ok(())
 }
 
+// The numbers of the calls that fail, and how the run ends.
 #[test]
 fn ends_where_calls_fail(rt: HostRuntime) -> Result<(), Fail> {
-    let map = "('x -> 'y) -> 'x list -> 'y list";
+    let find = ["same", "('x -> 'y) -> 'x list -> 'y list", "L.sig"].as_slice();
+    let list = ["list", "L.sig"].as_slice();
     let rows = [
-        (map, 1, 0, 5, "", "L.sig: cannot be read\n"),
-        (map, 2, 0, 5, "", "L.sig: cannot be read\n"),
-        ("int", 3, 0, 1, "0 found\n", ""),
-        // A query isn't read before the file.
-        ("int ->", 1, 0, 5, "", "L.sig: cannot be read\n"),
-        (map, 0, 1, 6, "", "output: cannot be written\n"),
+        (find, 1, 0, 5, "", "L.sig: cannot be read\n"),
+        (list, 2, 0, 5, "", "L.sig: cannot be read\n"),
+        (find, 0, 1, 6, "", "output: cannot be written\n"),
         (
-            map,
+            list,
             0,
             3,
             6,
             "val L.map : ('a -> 'b) -> 'a lis",
             "output: cannot be written\n",
         ),
-        ("int", 0, 1, 6, "", "output: cannot be written\n"),
-        ("int ->", 0, 1, 4, "", "query:1:7: syntax error\n"),
-        ("-", 1, 1, 2, "", USAGE),
+        (
+            ["same", "int ->", "L.sig"].as_slice(),
+            0,
+            1,
+            4,
+            "",
+            "query:1:7: syntax error\n",
+        ),
     ];
-    for (query, read, out, status, written, line) in rows {
-        let words = ["same", query, "L.sig"];
+    for (words, read, out, status, written, line) in rows {
         let outside = Outside {
             path: "L.sig",
             text: L,
@@ -538,20 +422,16 @@ fn ends_where_calls_fail(rt: HostRuntime) -> Result<(), Fail> {
             err: 0,
         };
         assert!(rt;
-            ends(rt.alloc(), &words, outside, status, written, line)?,
-            "{query} {read} {out}"
+            ends(rt.alloc(), words, outside, status, written, line)?,
+            "{words:?} {read} {out}"
         );
         // Where the line fails, the status stays.
         for err in 1..3 {
-            let got = answer(rt.alloc(), &words, Outside { err, ..outside })?;
-            assert_eq!(rt; got.0, status, "{query} {read} {out} {err}");
+            let got = answer(rt.alloc(), words, Outside { err, ..outside })?;
+            assert_eq!(rt; got.0, status, "{words:?} {read} {out} {err}");
             assert!(rt;
-                line.starts_with(got.2.as_str()),
-                "{query} {read} {out} {err}"
-            );
-            assert!(rt;
-                line.is_empty() || got.2.len() < line.len(),
-                "{query} {read} {out} {err}"
+                line.starts_with(got.2.as_str()) && got.2.len() < line.len(),
+                "{words:?} {read} {out} {err}"
             );
         }
     }

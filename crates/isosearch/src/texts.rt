@@ -1,32 +1,62 @@
-// Sets of texts.
-ghost use Rattle.std.specs.Prelude.{◌≡◌, ◌↔◌, ℕ, List, false, ◌||◌, IsTrue, IfOk, OnOk, bytes_eq};
-ghost use Rattle.isosearch.specs.Texts.{has};
+// The texts of tokens, and the type variables that they are.
+ghost use Rattle.std.specs.Prelude.{◌≡◌, ◌≤◌, length};
+ghost use Rattle.sig_elab.specs.Sources.{is_equality_variable as marks_equality, text_at, texts_of};
+ghost use Rattle.sml_lexer.specs.Tokens.{tokens as tokens_of};
+ghost use Rattle.isosearch.specs.Texts.{texts};
+ghost use Rattle.isosearch.specs.Types.{first_place as the_first_place, variable};
 
-use sig_base::NoMemory;
-use std::alloc::Global;
-use std::collections::HashSet;
+use crate::source::Source;
+use sml_lexer::{Token, spans_inside, tokens_count};
+use type_core::VarId;
 
-/// A set of texts.
-#[derive(Drop)]
-pub struct Texts<'a> {
-    texts: HashSet<&'a [u8]>,
-}
-
-impl<'a> Texts<'a> {
-    /// The set of no text.
-    pub fn new(alloc: Global) -> Self
-        ensures empty { (text : List ℕ) → has result text ≡ false }
+impl<'a> Source<'a> {
+    /// The text of these bytes, for which `lex` gave these tokens.
+    pub fn new(bytes: &'a [u8], tokens: &'a [Token]) -> Self
+        requires size { length bytes.now ≤ 4194304 }
+        requires tokens { tokens_of bytes.now tokens.now }
+        ensures { texts result ≡ texts_of bytes.now tokens.now }
     {
-        Texts {
-            texts: HashSet::new(alloc),
+        spans_inside();
+        tokens_count();
+        Source { bytes, tokens }
+    }
+
+    /// The text of the token with this number; nothing past the end.
+    pub fn text(&self, place: usize) -> &'a [u8]
+        ensures value { result.now ≡ text_at (texts self.now) place }
+    {
+        match self.tokens.get(place) {
+            None => &[],
+            Some(token) => &self.bytes[token.span.start as usize..token.span.end as usize],
         }
     }
 
-    /// Adds a text, and says whether it is new.
-    pub fn insert(&mut self, text: &'a [u8]) -> Result<bool, NoMemory>
-        ensures new { IfOk result (λ new. IsTrue new ↔ (has self.old text.now ≡ false)) }
-        ensures added { OnOk result ((other : List ℕ) → has self.new other ≡ (bytes_eq other text.now || has self.old other)) }
+    /// The type variable at a token.
+    pub fn variable(&self, place: u32) -> VarId
+        ensures value { result ≡ variable (texts self.now) place }
     {
-        Ok(self.texts.insert(text)?)
+        let text = self.text(place as usize);
+        VarId {
+            n: self.first_place(text),
+            eq: is_equality_variable(text),
+        }
     }
+
+    // How many tokens stand before the first with this text.
+    fn first_place(&self, text: &[u8]) -> u32
+        ensures { result ≡ the_first_place text.now (texts self.now) }
+    {
+        for place in 0..self.tokens.len() {
+            if text == self.text(place) {
+                return place as u32;
+            }
+        }
+        self.tokens.len() as u32
+    }
+}
+
+fn is_equality_variable(text: &[u8]) -> bool
+    ensures { result ≡ marks_equality text.now }
+{
+    matches!(text, [b'\'', b'\'', ..])
 }

@@ -2,10 +2,10 @@
 ghost use Rattle.std.specs.Prelude.{◌≡◌, ◌↔◌, IfSome, IsNone, map, string_bytes, Some};
 ghost use Rattle.isosearch.specs.Words.{command_of as the_command, given, is_option as the_option};
 
-/// `same QUERY FILE`: the values of the file whose type is the query.
+/// The members of a file: `same QUERY FILE` those whose type is the query, `list FILE` all of them.
 #[derive(Clone, Copy)]
 pub struct Command<'a> {
-    pub query: &'a str,
+    pub query: Option<&'a str>,
     pub file: &'a str,
 }
 
@@ -22,11 +22,15 @@ pub fn command_of(words: &[String]) -> Option<Command<'_>>
     ensures some { IfSome result (λ command. the_command (map string_bytes words.now) ≡ Some (given command)) }
 {
     match words {
+        [mode, file] if mode.as_str() == "list" && !is_option(file.as_str()) => Some(Command {
+            query: None,
+            file: file.as_str(),
+        }),
         [mode, query, file]
             if mode.as_str() == "same" && !is_option(query.as_str()) && !is_option(file.as_str()) =>
             {
                 Some(Command {
-                    query: query.as_str(),
+                    query: Some(query.as_str()),
                     file: file.as_str(),
                 })
             }

@@ -1,4 +1,4 @@
-use Rattle.isosearch.proofs.ElaborationTokens.{start_within}
+use Rattle.isosearch.proofs.Places.{start_within}
 use Rattle.isosearch.proofs.stages.start_of.Goals as goal
 
 pub returns-in-Some-clause-within : goal.returns-in-Some-clause-within
