@@ -50,7 +50,6 @@ pub use progress::Progress;
 pub use refusal::{ElabRefusal, Why};
 
 #[cfg(test)]
-#[cfg(test)]
 mod equality_tests;
 #[cfg(test)]
 mod tests;
