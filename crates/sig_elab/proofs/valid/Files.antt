@@ -24,7 +24,7 @@ use Rattle.sig_elab.specs.Outcome.{Outcome, and_then}
 use Rattle.sig_elab.specs.Soundness.{AreSoundNames, IsSound, IsSoundUnit, member_paths, tycon_paths}
 use Rattle.sig_elab.specs.Sources.{text_at}
 use Rattle.sig_elab.specs.Specifications.{Base, Signature, base_step, bind_step, binding_of, signature_of, signature_step, spec_step}
-use Rattle.sig_elab.specs.Spelling.{AreSpelledBindings, IsSpelledDeclaration, IsSpelledFile, IsSpelledSignature, more_bindings, no_bindings}
+use Rattle.sig_elab.proofs.spelling.Spelled.{AreSpelledBindings, IsSpelledDeclaration, IsSpelledFile, IsSpelledSignature, more_bindings, no_bindings}
 use Rattle.sig_elab.specs.States.{State, weighed}
 use Rattle.sig_elab.proofs.valid.Body.{IsSoundBody, Outside}
 use Rattle.sig_elab.proofs.valid.Lists.{distinct_more, no_pairs, other_texts, unmapped}

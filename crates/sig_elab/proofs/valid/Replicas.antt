@@ -13,7 +13,7 @@ use Rattle.sig_elab.specs.Outcome.{and_then}
 use Rattle.sig_elab.specs.Replications.{Found, found_datatype, found_in, replica, replica_described, value_copied}
 use Rattle.sig_elab.specs.Soundness.{IsSoundEntry, IsSoundFunction, IsSoundValue}
 use Rattle.sig_elab.specs.Sources.{is_qualified, text_at}
-use Rattle.sig_elab.specs.Spelling.{NamesType}
+use Rattle.sig_elab.proofs.spelling.Spelled.{NamesType}
 use Rattle.sig_elab.specs.States.{State}
 use Rattle.sig_elab.proofs.valid.Body.{IsSoundBody, Outside, added_parts, initial_kept, type_pushed, value_pushed}
 use Rattle.sig_elab.proofs.valid.Found.{HasValue, first_or, function_in, have_functions, have_values, initial_functions, values_found}

@@ -23,8 +23,8 @@ use Rattle.sig_elab.specs.Environments.{Environment}
 use Rattle.sig_elab.specs.Exceptions.{exceptions_described}
 use Rattle.sig_elab.specs.Replications.{replica_described}
 use Rattle.sig_elab.specs.Specifications.{Base, Signature, base_step, bind_step, binding_of, not_built, signature_of, signature_step, spec_step, specified, with_parts}
-use Rattle.sig_elab.specs.Spelling as spelling
-use Rattle.sig_elab.specs.Spelling.{AreSpelledSpecs, IsSpelledBase, IsSpelledSignature, IsSpelledSpec, more_specs, no_specs}
+use Rattle.sig_elab.proofs.spelling.Spelled as spelling
+use Rattle.sig_elab.proofs.spelling.Spelled.{AreSpelledSpecs, IsSpelledBase, IsSpelledSignature, IsSpelledSpec, more_specs, no_specs}
 use Rattle.sig_elab.specs.States.{State}
 use Rattle.sig_elab.specs.TypeDescriptions.{types_described}
 use Rattle.sig_elab.specs.Values.{values_described}

@@ -29,7 +29,7 @@ use Rattle.sig_elab.specs.Outcome.{Outcome, and_then}
 use Rattle.sig_elab.specs.Parameters.{parameters_checked, variables_at}
 use Rattle.sig_elab.specs.Soundness.{IsSoundEntry, IsSoundFunction}
 use Rattle.sig_elab.specs.Sources.{text_at, variable}
-use Rattle.sig_elab.specs.Spelling.{IsSpelledDatatype, IsSpelledIfGiven, IsSpelledTycon}
+use Rattle.sig_elab.proofs.spelling.Spelled.{IsSpelledDatatype, IsSpelledIfGiven, IsSpelledTycon}
 use Rattle.sig_elab.specs.States.{State, with_name, within}
 use Rattle.sig_elab.specs.TypeDescriptions.{group_described, head, plain_type, right_place, right_side, type_described, types_described}
 use Rattle.sig_elab.specs.Types.{typed}

@@ -26,8 +26,8 @@ use Rattle.type_core.proofs.Trees.{height_var, size_var}
 use Rattle.elab_env.proofs.NameLists.{KeepsNames}
 use Rattle.sig_elab.specs.Soundness.{IsSoundEntry}
 use Rattle.sig_elab.specs.Sources.{is_qualified, text_at, variable}
-use Rattle.sig_elab.specs.Spelling as spelling
-use Rattle.sig_elab.specs.Spelling.{AreSpelledFields, AreSpelledTypes, IsSpelledType, more_fields, more_types, no_fields, no_types}
+use Rattle.sig_elab.proofs.spelling.Spelled as spelling
+use Rattle.sig_elab.proofs.spelling.Spelled.{AreSpelledFields, AreSpelledTypes, IsSpelledType, more_fields, more_types, no_fields, no_types}
 use Rattle.sig_elab.specs.States.{State}
 use Rattle.sig_elab.specs.Types.{Any, Parameters, Place, Variables, all_typed, arrows, arrows_from, constructed, constructed_all, constructed_on, field_typed, fields_typed, found_type, in_label_order, is_new_label, limited, record_of, typed, typed_field_step, typed_step, variable_of}
 use Rattle.sig_elab.proofs.valid.Fields.{AreApart, all_sorted, record_made, sorted_in_order}

@@ -27,7 +27,7 @@ use Rattle.sig_elab.specs.Exceptions.{exceptions, exceptions_described}
 use Rattle.sig_elab.specs.Parameters.{marked, numbered_from}
 use Rattle.sig_elab.specs.Soundness.{IsSoundType}
 use Rattle.sig_elab.specs.Sources.{text_at}
-use Rattle.sig_elab.specs.Spelling.{IsSpelledConstructor, IsSpelledIfGiven, IsSpelledValue}
+use Rattle.sig_elab.proofs.spelling.Spelled.{IsSpelledConstructor, IsSpelledIfGiven, IsSpelledValue}
 use Rattle.sig_elab.specs.States.{State}
 use Rattle.sig_elab.specs.Types.{limited, typed}
 use Rattle.sig_elab.specs.Values.{closed_value, value_described, value_place, values_described}
