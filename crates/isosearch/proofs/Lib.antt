@@ -1,13 +1,10 @@
 pub mod Answered
-pub mod Arrows
 pub mod Digits
 pub mod DueEnds
 pub mod DueOne
 pub mod Elaborated
-pub mod OneReading
+pub mod HitsFound
 pub mod Places
-pub mod QueryTypes
-pub mod Refusing
-pub mod Reported
+pub mod Refused
 pub mod Saying
 pub mod Sizes

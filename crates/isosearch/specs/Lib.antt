@@ -2,9 +2,10 @@ pub mod Words
 pub mod Texts
 pub mod Types
 pub mod Measures
-pub mod Stages
+pub mod Refusals
 pub mod Library
 pub mod Query
+pub mod Report
 pub mod Lines
 pub mod Outcome
 pub mod Ending

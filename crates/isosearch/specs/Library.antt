@@ -7,17 +7,20 @@ use Rattle.sig_parser.specs.declared.tree.SourceFile.{SourceFile}
 use Rattle.sig_parser.specs.Files.{File}
 use Rattle.type_core.specs.declared.library.Library.{Library}
 use Rattle.isosearch.specs.declared.fault.Fault.TheVariants as fault
-use Rattle.isosearch.specs.Stages.{Flaw, Language}
+use Rattle.elab_types.specs.Outcome as general
+use Rattle.elab_types.specs.Stages.{Language}
+use Rattle.isosearch.specs.declared.fault.Fault.{Fault}
+use Rattle.isosearch.specs.Refusals.{of_text}
 
 -- the library of a basis, or the condition of elaboration that failed
-abbrev pub library_or_flaw : Outcome Basis → Result Library Flaw
+abbrev pub library_or_flaw : Outcome Basis → general.Outcome Fault Library
 library_or_flaw (Ok basis) = Ok (library basis)
-library_or_flaw (Err failure) = Err (record { fault = fault.Elab failure.why; token = failure.token })
+library_or_flaw (Err failure) = general.failed (fault.Elab failure.why) failure.token
 
 -- what a file means: the library of the basis after it, where nothing was declared before
-abbrev pub library_of : List (List ℕ) → SourceFile → Result Library Flaw
+abbrev pub library_of : List (List ℕ) → SourceFile → general.Outcome Fault Library
 library_of texts file = library_or_flaw (elaborated texts file empty_basis)
 
 -- a signature file means a library
-abbrev pub files : Language SourceFile Library
-files = record { phrase = File; meaning = library_of }
+abbrev pub files : Language Fault SourceFile Library
+files = record { phrase = File; meaning = library_of; of_text = of_text }

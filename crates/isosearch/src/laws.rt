@@ -4,7 +4,6 @@ ghost use Rattle.sig_base.specs.FileMap.{FileMap};
 ghost use Rattle.isosearch.specs.Outcome.{Due, Outcome};
 ghost use Rattle.isosearch.specs.Words.{Command};
 
-use search_core::queries_have_one_answer;
 use sml_lexer::{no_refusal, one_list, one_refusal};
 
 /// Where the files are told, at most one outcome is due.
@@ -16,5 +15,4 @@ pub fn one_outcome()
     one_refusal();
     sig_parser::one_tree();
     ty_parser::one_tree();
-    queries_have_one_answer();
 }

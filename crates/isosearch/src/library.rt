@@ -1,15 +1,16 @@
 // The library of a signature file.
 ghost use Rattle.std.specs.Prelude.{◌≡◌, ◌≤◌, length, IfOk, IfErr};
 ghost use Rattle.sml_lexer.specs.Tokens.{tokens as tokens_of};
-ghost use Rattle.sig_elab.specs.Sources.{texts_of};
+ghost use Rattle.elab_types.specs.Sources.{texts_of};
 ghost use Rattle.sig_parser.specs.Files.{File};
 ghost use Rattle.ty_parser.specs.Sorts.{sorts_of};
 ghost use Rattle.type_core.specs.ValidLibrary.{IsValidLibrary};
 ghost use Rattle.isosearch.specs.Library.{files, library_of as the_library};
-ghost use Rattle.isosearch.specs.Stages.{IsWithin, Reads, Tells, placed};
+ghost use Rattle.elab_types.specs.Stages.{Reads, Tells, placed};
+ghost use Rattle.isosearch.specs.Refusals.{IsWithin, flaw_of};
 
 use crate::fault::{Fault, SourceRefusal};
-use crate::stages::{no_phrase, start_of};
+use elab_types::{no_phrase, no_tokens, start_of};
 use sig_elab::{Elab, ElabRefusal};
 use sig_parser::{SourceFile, parse_file};
 use sml_lexer::{Token, lex};
@@ -19,13 +20,13 @@ use type_core::Library;
 /// The library of a signature file; `Refused` comes exactly where the file is refused.
 pub fn read_library(alloc: Global, bytes: &[u8]) -> Result<Library, SourceRefusal>
     requires size { length bytes.now ≤ 4194304 }
-    ensures value { Tells (Reads files bytes.now) result }
+    ensures value { Tells flaw_of (Reads files bytes.now) result }
     ensures valid { IfOk result IsValidLibrary }
     ensures within { IfErr result (λ r. IsWithin bytes.now r) }
 {
     match lex(alloc, bytes) {
         Ok(tokens) => library_of(alloc, bytes, tokens.as_slice()),
-        Err(refusal) => Err(SourceRefusal::from(refusal)),
+        Err(refusal) => Err(SourceRefusal::from(no_tokens(bytes, refusal))),
     }
 }
 
@@ -33,13 +34,13 @@ pub fn read_library(alloc: Global, bytes: &[u8]) -> Result<Library, SourceRefusa
 fn library_of(alloc: Global, bytes: &[u8], tokens: &[Token]) -> Result<Library, SourceRefusal>
     requires size { length bytes.now ≤ 4194304 }
     requires tokens { tokens_of bytes.now tokens.now }
-    ensures value { Tells (Reads files bytes.now) result }
+    ensures value { Tells flaw_of (Reads files bytes.now) result }
     ensures valid { IfOk result IsValidLibrary }
     ensures within { IfErr result (λ r. IsWithin bytes.now r) }
 {
     match parse_file(alloc, bytes, tokens) {
         Ok(file) => elaborate(alloc, bytes, tokens, &file),
-        Err(refusal) => Err(no_phrase(bytes, tokens, refusal)),
+        Err(refusal) => Err(SourceRefusal::from(no_phrase(bytes, tokens, refusal))),
     }
 }
 
@@ -53,7 +54,7 @@ fn elaborate(
     requires size { length bytes.now ≤ 4194304 }
     requires tokens { tokens_of bytes.now tokens.now }
     requires phrase { File (sorts_of bytes.now tokens.now) file.now }
-    ensures value { Tells (λ r. placed bytes.now tokens.now (the_library (texts_of bytes.now tokens.now) file.now) ≡ r) result }
+    ensures value { Tells flaw_of (λ r. placed bytes.now tokens.now (the_library (texts_of bytes.now tokens.now) file.now) ≡ r) result }
     ensures valid { IfOk result IsValidLibrary }
     ensures within { IfErr result (λ r. IsWithin bytes.now r) }
 {

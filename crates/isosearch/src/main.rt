@@ -8,9 +8,9 @@ mod library;
 mod lines;
 mod query;
 mod query_types;
+mod report;
 mod run;
 mod source;
-mod stages;
 #[cfg(test)]
 mod tests;
 mod texts;

@@ -8,7 +8,7 @@ use Rattle.sig_elab.specs.Elaborators.{GivesBasis, basis_of}
 use Rattle.sig_elab.specs.Files.{elaborated}
 use Rattle.sig_elab.specs.Library.{Basis}
 use Rattle.sig_elab.specs.Soundness.{IsSound}
-use Rattle.sig_elab.proofs.spelling.Spelled.{IsSpelledFile}
+use Rattle.sig_elab.specs.Spelling.{IsSpelledFile}
 use Rattle.sig_elab.proofs.valid.Files.{sound_after}
 
 pub accepted_sound : (before : Units) (texts : List (List ℕ)) (file : SourceFile) (basis : Basis) (result : Result Draft ElabRefusal) → IsSpelledFile texts file → IsSound basis → GivesBasis before (elaborated texts file basis) result → IfOk result (λ after. IsSound (basis_of before after))

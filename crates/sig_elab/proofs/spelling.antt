@@ -1,6 +1,3 @@
-pub mod Spelled
-pub mod Sorts
-pub mod Tokens
-pub mod Types
+pub mod Values
 pub mod Descriptions
 pub mod Files

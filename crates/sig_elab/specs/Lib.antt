@@ -1,6 +1,4 @@
 pub mod Outcome
-pub mod Finding
-pub mod Sources
 pub mod Environments
 pub mod InitialEnvironment
 pub mod States
@@ -11,14 +9,15 @@ pub mod Values
 pub mod TypeDescriptions
 pub mod Constructors
 pub mod Equality
+pub mod Settling
 pub mod Datatypes
 pub mod Exceptions
 pub mod Replications
 pub mod Specifications
 pub mod Files
 pub mod Library
+pub mod Spelling
 pub mod Soundness
-pub mod Settling
 pub mod Places
 pub mod Views
 pub mod Totals

@@ -23,14 +23,14 @@ use Rattle.sig_elab.specs.Environments.{Environment}
 use Rattle.sig_elab.specs.Exceptions.{exceptions_described}
 use Rattle.sig_elab.specs.Replications.{replica_described}
 use Rattle.sig_elab.specs.Specifications.{Base, Signature, base_step, bind_step, binding_of, not_built, signature_of, signature_step, spec_step, specified, with_parts}
-use Rattle.sig_elab.proofs.spelling.Spelled as spelling
-use Rattle.sig_elab.proofs.spelling.Spelled.{AreSpelledSpecs, IsSpelledBase, IsSpelledSignature, IsSpelledSpec, more_specs, no_specs}
+use Rattle.sig_elab.specs.Spelling as spelling
+use Rattle.sig_elab.specs.Spelling.{AreSpelledSpecs, IsSpelledBase, IsSpelledSignature, IsSpelledSpec, more_specs, no_specs}
 use Rattle.sig_elab.specs.States.{State}
 use Rattle.sig_elab.specs.TypeDescriptions.{types_described}
 use Rattle.sig_elab.specs.Values.{values_described}
 use Rattle.sig_elab.proofs.valid.Body.{IsSoundBody, Outside}
 use Rattle.sig_elab.proofs.valid.Names.{keeps_all, keeps_then}
-use Rattle.sig_elab.proofs.valid.Outcomes.{no_failure, ok_is, then_parts}
+use Rattle.elab_types.proofs.Outcomes.{no_failure, ok_is, then_parts}
 use Rattle.sig_elab.proofs.valid.Replicas.{replica_kept}
 use Rattle.sig_elab.proofs.valid.Tycons.{Grows, datatypes_kept, types_kept}
 use Rattle.sig_elab.proofs.valid.Values.{Stays, exceptions_kept, values_kept}
