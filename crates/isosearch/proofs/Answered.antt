@@ -9,13 +9,13 @@ use Rattle.type_core.specs.declared.library.Library.{Library}
 use Rattle.type_core.specs.declared.member.Member.{Member}
 use Rattle.type_core.specs.declared.ty.Scheme.{Scheme}
 use Rattle.isosearch.specs.declared.fault.Fault.{Fault}
+use Rattle.isosearch.specs.declared.fault.SourceRefusal.TheVariants as source
 use Rattle.isosearch.specs.Ending.{Decides, outcome_of, reported}
 use Rattle.isosearch.specs.Library.{files}
 use Rattle.isosearch.specs.Outcome.{Answers, Due, Loads, Outcome, all, answer, bad, bad_query, found, listed, refusal, searched}
 use Rattle.isosearch.specs.Query.{Asks, source_limit}
 use Rattle.isosearch.specs.Report.{Hits}
-use Rattle.elab_types.specs.Stages as stages
-use Rattle.elab_types.specs.Stages.{Reads}
+use Rattle.isosearch.specs.Stages.{Reads}
 use Rattle.isosearch.specs.Words.{Command}
 use Rattle.isosearch.specs.declared.report.Report.{Report}
 use Rattle.isosearch.specs.declared.run.Refusal.{Refusal}
@@ -23,11 +23,11 @@ use Rattle.isosearch.specs.declared.run.Refusal.TheVariants as refused
 
 -- the refusal of a file is due, and that of a query
 pub file_refused : (told : Option FileMap) (path bytes : List ℕ) (fault : Fault) (place : ℕ) (at : LineCol) → Holds told path bytes → length bytes ≤ source_limit
-    → Reads files bytes (stages.refused fault place) → at.line ≡ line_at bytes place → at.col ≡ column_at bytes place
+    → Reads files bytes (Err (source.Refused fault place)) → at.line ≡ line_at bytes place → at.col ≡ column_at bytes place
     → Decides (λ outcome. Loads told path (Err outcome)) path (refused.File fault at)
 file_refused told path bytes fault place at holds short reads line column = λ _. rw (line, column) (bad holds short reads)
 
-pub query_refused : (library : Library) (query : List ℕ) (fault : Fault) (place : ℕ) (at : LineCol) → Asks query (stages.refused fault place) → at.line ≡ line_at query place → at.col ≡ column_at query place
+pub query_refused : (library : Library) (query : List ℕ) (fault : Fault) (place : ℕ) (at : LineCol) → Asks query (Err (source.Refused fault place)) → at.line ≡ line_at query place → at.col ≡ column_at query place
     → (path : List ℕ) → Decides (Answers library (Some query)) path (refused.Query fault at)
 query_refused library query fault place at asks line column path = λ _. rw (line, column) (bad_query asks)
 

@@ -9,14 +9,16 @@ use Rattle.type_core.specs.declared.library.Library.{Library}
 use Rattle.type_core.specs.declared.member.Member.{Member}
 use Rattle.type_core.specs.declared.ty.Scheme.{Scheme}
 use Rattle.isosearch.specs.declared.fault.Fault.{Fault}
+use Rattle.isosearch.specs.declared.fault.SourceRefusal.{SourceRefusal}
+use Rattle.isosearch.specs.declared.fault.SourceRefusal.TheVariants as source
 use Rattle.isosearch.specs.Library.{files}
 use Rattle.isosearch.specs.Lines.{fault_text, query_name, refusal_line}
 use Rattle.isosearch.specs.Outcome.{Answers, Due, IsMissing, Loads, Outcome, all, answer, bad, bad_query, found, long, missing, refusal, refused, searched, whole}
 use Rattle.isosearch.specs.Query.{Asks, long as long_query, queries, short, source_limit}
 use Rattle.isosearch.specs.Report.{Hits, no_members, hit, no_hit}
-use Rattle.elab_types.specs.Stages.{Flaw, Reads}
+use Rattle.isosearch.specs.Stages.{Reads}
 use Rattle.isosearch.specs.Words.{Command}
-use Rattle.elab_types.proofs.OneReading.{Lexing, OneTree, one_reading}
+use Rattle.isosearch.proofs.OneReading.{Lexing, OneTree, one_reading}
 
 -- the hits among the members are one list
 one_hits : {scheme : Scheme} {members hits others : List Member} → Hits scheme members hits → Hits scheme members others → hits ≡ others
@@ -40,12 +42,8 @@ module _ (told : FileMap) (path : List ℕ) where
   long_not : (bytes : List ℕ) → HoldsMore (Some told) path source_limit → Holds (Some told) path bytes → length bytes ≤ source_limit → ⊥
   long_not bytes (others, holds, more) also few = omega (arith, more, few, ap length (one_content bytes others also holds))
 
--- a fault at a byte
-abbrev flaw : Fault → ℕ → Flaw Fault
-flaw f j = record { why = f; place = j }
-
 -- one refusal has one cause and one place
-same_fault : {A : Type 0} (f g : Fault) (j k : ℕ) (a b : Result A (Flaw Fault)) → a ≡ Err (flaw f j) → b ≡ Err (flaw g k) → a ≡ b → (f ≡ g) × (j ≡ k)
+same_fault : {A : Type 0} (f g : Fault) (j k : ℕ) (a b : Result A SourceRefusal) → a ≡ Err (source.Refused f j) → b ≡ Err (source.Refused g k) → a ≡ b → (f ≡ g) × (j ≡ k)
 same_fault f g j k a b is also same = (cc, cc)
 
 -- what an answer holds is one, and it isn't both of the two
@@ -59,7 +57,7 @@ ok_err_not : {A E : Type 0} (x : A) (y : E) (a b : Result A E) → a ≡ Ok x �
 ok_err_not x y a b is also same = cc
 
 module _ (lexing : Lexing) (one_file : OneTree File) (one_type : OneTree Phrase) where
-  one_text : (told : FileMap) (path bytes others : List ℕ) (a b : Result Library (Flaw Fault)) → Holds (Some told) path bytes → Holds (Some told) path others → Reads files bytes a → Reads files others b
+  one_text : (told : FileMap) (path bytes others : List ℕ) (a b : Result Library SourceRefusal) → Holds (Some told) path bytes → Holds (Some told) path others → Reads files bytes a → Reads files others b
       → (bytes ≡ others) × (a ≡ b)
   one_text told path bytes others a b holds also x y =
       let content : bytes ≡ others = one_content told path bytes others holds also in
@@ -82,16 +80,16 @@ module _ (lexing : Lexing) (one_file : OneTree File) (one_type : OneTree Phrase)
       let fault = same_fault f g j k _ _ refl refl same.1 in
       λ i. Err (refused 3 (refusal_line path (same.0 i) (fault.1 i) (fault_text (fault.0 i))))
   one_loading told path a b (bad {bytes = bytes} {fault = f} {place = j} holds few x) (whole {bytes = others} {library = m} also less y) =
-      absurd (ok_err_not m (flaw f j) _ _ refl refl (sym (one_text told path bytes others _ _ holds also x y).1))
+      absurd (ok_err_not m (source.Refused f j) _ _ refl refl (sym (one_text told path bytes others _ _ holds also x y).1))
   one_loading told path a b (whole {bytes = bytes} holds few x) (missing y) = absurd (missing_not told path bytes y holds)
   one_loading told path a b (whole {bytes = bytes} holds few x) (long y) = absurd (long_not told path bytes y holds few)
   one_loading told path a b (whole {bytes = bytes} {library = l} holds few x) (bad {bytes = others} {fault = g} {place = k} also less y) =
-      absurd (ok_err_not l (flaw g k) _ _ refl refl (one_text told path bytes others _ _ holds also x y).1)
+      absurd (ok_err_not l (source.Refused g k) _ _ refl refl (one_text told path bytes others _ _ holds also x y).1)
   one_loading told path a b (whole {bytes = bytes} {library = l} holds few x) (whole {bytes = others} {library = m} also less y) =
       ap Ok (same_ok l m _ _ refl refl (one_text told path bytes others _ _ holds also x y).1)
 
   -- one thing comes of a query
-  one_asking : (query : List ℕ) (a b : Result Scheme (Flaw Fault)) → Asks query a → Asks query b → a ≡ b
+  one_asking : (query : List ℕ) (a b : Result Scheme SourceRefusal) → Asks query a → Asks query b → a ≡ b
   one_asking query a b (long_query x) (long_query y) = refl
   one_asking query a b (long_query x) (short few y) = absurd (omega (arith, x, few))
   one_asking query a b (short few x) (long_query y) = absurd (omega (arith, y, few))
@@ -103,8 +101,8 @@ module _ (lexing : Lexing) (one_file : OneTree File) (one_type : OneTree Phrase)
   one_answer library query a b (bad_query {query = q} {fault = f} {place = j} x) (bad_query {fault = g} {place = k} y) =
       let fault = same_fault f g j k _ _ refl refl (one_asking q _ _ x y) in
       λ i. refused 4 (refusal_line query_name q (fault.1 i) (fault_text (fault.0 i)))
-  one_answer library query a b (bad_query {query = q} {fault = f} {place = j} x) (found {scheme = t} y are) = absurd (ok_err_not t (flaw f j) _ _ refl refl (one_asking q _ _ y x))
-  one_answer library query a b (found {query = q} {scheme = s} x are) (bad_query {fault = g} {place = k} y) = absurd (ok_err_not s (flaw g k) _ _ refl refl (one_asking q _ _ x y))
+  one_answer library query a b (bad_query {query = q} {fault = f} {place = j} x) (found {scheme = t} y are) = absurd (ok_err_not t (source.Refused f j) _ _ refl refl (one_asking q _ _ y x))
+  one_answer library query a b (found {query = q} {scheme = s} x are) (bad_query {fault = g} {place = k} y) = absurd (ok_err_not s (source.Refused g k) _ _ refl refl (one_asking q _ _ x y))
   one_answer library query a b (found {query = q} {scheme = s} x are) (found {scheme = t} {hits = more} y also) =
       let same : s ≡ t = same_ok s t _ _ refl refl (one_asking q _ _ x y) in
       ap (searched library) (one_hits are (subst (λ r. Hits r library.members more) (sym same) also))

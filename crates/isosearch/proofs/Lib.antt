@@ -1,10 +1,12 @@
 pub mod Answered
+pub mod Arrows
 pub mod Digits
 pub mod DueEnds
 pub mod DueOne
 pub mod Elaborated
 pub mod HitsFound
+pub mod OneReading
 pub mod Places
-pub mod Refused
+pub mod Refusing
 pub mod Saying
 pub mod Sizes

@@ -3,7 +3,7 @@ use Rattle.std.proofs.Common.{◌≡◌, ℕ, suc, ◌+◌, ◌<◌, ◌≤◌, 
 use Rattle.std.specs.List.{All}
 use Rattle.std.proofs.lemmas.List.Elements.{All-get_or}
 use Rattle.std.proofs.lemmas.Option.{slice_get_within, unwrap_or-slice_get}
-use Rattle.elab_types.specs.Sources.{AreWithin, text_at}
+use Rattle.sig_elab.specs.Sources.{AreWithin, text_at}
 use Rattle.sml_lexer.specs.declared.token.Token.{Token}
 use Rattle.isosearch.specs.Types.{first_place}
 
@@ -18,6 +18,12 @@ tokens_within bytes ts inside i token at =
     let same : get_or ts i token ≡ token = sym (unwrap_or-slice_get ts i token) ∙ ap (λ o. unwrap_or o token) at in
     let here = rw same at is in
     (omega (arith, here.0), here.1)
+
+pub start_within : (bytes : List ℕ) (ts : List Token) (k : ℕ) (d : Token) → SpansInside bytes ts → k < length ts → (get_or ts k d).span.start ≤ length bytes
+start_within bytes ts k d inside within =
+    let Inside = λ (t : Token). (t.span.start < t.span.end) × (t.span.end ≤ length bytes) in
+    let here = All-get_or Inside ts k d within inside in
+    omega (arith, here.0, here.1)
 
 -- the first place among the texts from one place on, where the one there is looked at
 looked_at : (text : List ℕ) (texts : List (List ℕ)) (i : ℕ) → i < length texts → first_place text (drop i texts) ≡ (if bytes_eq text (text_at texts i) then 0 else 1 + first_place text (drop (suc i) texts))

@@ -1,8 +1,8 @@
 -- The size of the type that an expression stands for.
 use Rattle.std.proofs.Common.{◌≡◌, ℕ, ◌+◌, Bool, true, false, List, [], ◌∷◌, map, length, bytes_eq, codes, if◌then◌else◌, refl, sym, ap, ap₂, ◌∙◌, subst, arith}
 use Rattle.std.proofs.lemmas.List.{length-map}
-use Rattle.elab_types.specs.Sources.{text_at}
-use Rattle.elab_types.specs.Arrows.{arrows, arrows_from}
+use Rattle.sig_elab.specs.Sources.{text_at}
+use Rattle.sig_elab.specs.Types.{arrows, arrows_from}
 use Rattle.type_core.specs.declared.ty.NameId.{NameId}
 use Rattle.type_core.specs.declared.ty.Ty.{Ty}
 use Rattle.type_core.specs.declared.ty.Ty.TheVariants as ty
@@ -14,7 +14,6 @@ use Rattle.ty_parser.specs.declared.tree.TyExp.{TyExp}
 use Rattle.ty_parser.specs.declared.tree.TyExp.TheOpen.{TyExp-F, FieldExp-F, Var, Fields, Tuple, Arrows, Apply}
 use Rattle.ty_parser.specs.declared.tree.TyExp.TheViews.{roll-TyExp, roll-FieldExp}
 use Rattle.ty_parser.specs.declared.tree.TyExp.TheFolds.{map-TyExp, fold-FieldExp, fold-roll-TyExp, fold-roll-FieldExp, ind-TyExp}
-use Rattle.elab_types.proofs.ArrowChains.{size_arrows_from}
 use Rattle.isosearch.specs.Types.{application, applied, applied_on, type_field_step, type_of, type_step}
 use Rattle.isosearch.specs.Measures.{applied_size, arrows_size, expression_size, size_field_step, size_step}
 
@@ -36,6 +35,11 @@ size_applied : (texts : List (List ℕ)) (ts : List Ty) (constructors : List ℕ
 size_applied texts ts [] = omega (arith, size_tup ts)
 size_applied texts ts (i ∷ constructors) =
     omega (arith, size_applied_on texts (application (text_at texts i) ts) constructors, size_application (text_at texts i) ts)
+
+-- an arrow is one node more
+size_arrows_from : (side : Ty) (sides : List Ty) → size_of (arrows_from side sides) ≡ size_of side + (sum_of (map size_of sides) + length sides)
+size_arrows_from side [] = omega arith
+size_arrows_from side (next ∷ sides) = omega (arith, size_arrow side (arrows_from next sides), size_arrows_from next sides)
 
 size_arrows : (sides : List Ty) → size_of (arrows sides) ≡ arrows_size (map size_of sides)
 size_arrows [] = size_tup []

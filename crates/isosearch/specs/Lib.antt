@@ -2,8 +2,7 @@ pub mod Words
 pub mod Texts
 pub mod Types
 pub mod Measures
-pub mod Refusals
-pub mod Library
+pub mod Stages
 pub mod Query
 pub mod Report
 pub mod Lines

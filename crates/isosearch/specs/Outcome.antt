@@ -7,12 +7,12 @@ use Rattle.type_core.specs.declared.library.Library.{Library}
 use Rattle.type_core.specs.declared.member.Member.{Member}
 use Rattle.type_core.specs.declared.ty.Scheme.{Scheme}
 use Rattle.isosearch.specs.declared.fault.Fault.{Fault}
+use Rattle.isosearch.specs.declared.fault.SourceRefusal.TheVariants as source
 use Rattle.isosearch.specs.Library.{files}
 use Rattle.isosearch.specs.Lines.{fault_text, not_read_line, query_name, refusal_line, too_long_line}
 use Rattle.isosearch.specs.Query.{Asks, source_limit}
 use Rattle.isosearch.specs.Report.{Hits, report}
-use Rattle.elab_types.specs.Stages as stages
-use Rattle.elab_types.specs.Stages.{Reads}
+use Rattle.isosearch.specs.Stages.{Reads}
 use Rattle.isosearch.specs.Words.{Command}
 
 -- a status, the bytes for the output, and the line for standard error
@@ -34,7 +34,7 @@ IsMissing (Some files) path = get files path ≡ None
 pub data Loads (told : Option FileMap) (path : List ℕ) : Result Library Outcome → Type 0 where
   missing : IsMissing told path → Loads told path (Err (refused 5 (not_read_line path)))
   long : HoldsMore told path source_limit → Loads told path (Err (refused 3 (too_long_line path)))
-  bad : {bytes : List ℕ} {fault : Fault} {place : ℕ} → Holds told path bytes → length bytes ≤ source_limit → Reads files bytes (stages.refused fault place)
+  bad : {bytes : List ℕ} {fault : Fault} {place : ℕ} → Holds told path bytes → length bytes ≤ source_limit → Reads files bytes (Err (source.Refused fault place))
       → Loads told path (Err (refused 3 (refusal_line path bytes place (fault_text fault))))
   whole : {bytes : List ℕ} {library : Library} → Holds told path bytes → length bytes ≤ source_limit → Reads files bytes (Ok library) → Loads told path (Ok library)
 
@@ -54,7 +54,7 @@ searched library hits = record { status = status_of hits; out = report library.n
 -- what is due over a library: without a query all members; for a query its refusal, or its hits
 pub data Answers (library : Library) : Option (List ℕ) → Outcome → Type 0 where
   all : Answers library None (listed library)
-  bad_query : {query : List ℕ} {fault : Fault} {place : ℕ} → Asks query (stages.refused fault place)
+  bad_query : {query : List ℕ} {fault : Fault} {place : ℕ} → Asks query (Err (source.Refused fault place))
       → Answers library (Some query) (refused 4 (refusal_line query_name query place (fault_text fault)))
   found : {query : List ℕ} {scheme : Scheme} {hits : List Member} → Asks query (Ok scheme) → Hits scheme library.members hits
       → Answers library (Some query) (searched library hits)

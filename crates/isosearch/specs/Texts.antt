@@ -1,6 +1,6 @@
 -- The texts of a source's tokens.
 use Rattle.std.specs.Prelude.{ℕ, List}
-use Rattle.elab_types.specs.Sources.{texts_of}
+use Rattle.sig_elab.specs.Sources.{texts_of}
 use Rattle.isosearch.specs.declared.source.Source.{Source}
 
 -- the texts of all tokens

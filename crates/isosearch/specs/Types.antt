@@ -1,7 +1,7 @@
 -- The types that queries are built from so far, and what their expressions stand for (the Definition of Standard ML, rules 44 to 49).
 use Rattle.std.specs.Prelude.{ℕ, ◌+◌, Bool, true, false, ◌&&◌, ◌||◌, nat_le, List, [], ◌∷◌, map, codes, bytes_eq, if◌then◌else◌}
-use Rattle.elab_types.specs.Sources.{is_equality_variable, text_at}
-use Rattle.elab_types.specs.Arrows.{arrows}
+use Rattle.sig_elab.specs.Sources.{is_equality_variable, text_at}
+use Rattle.sig_elab.specs.Types.{arrows}
 use Rattle.type_core.specs.declared.ty.VarId.{VarId}
 use Rattle.type_core.specs.declared.ty.Ty.{Ty}
 use Rattle.type_core.specs.declared.ty.Ty.TheVariants as ty

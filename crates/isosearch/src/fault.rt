@@ -1,12 +1,12 @@
 // Why a text is refused.
 ghost use Rattle.std.specs.Prelude.{◌≡◌};
 ghost use Rattle.isosearch.specs.Lines.{fault_text, why_text as the_why_text};
-ghost use Rattle.isosearch.specs.Refusals.{of_text, refusal_of};
+ghost use Rattle.isosearch.specs.Stages.{of_lexer};
 ghost use Rattle.isosearch.specs.declared.fault.SourceRefusal.TheVariants as refusal;
 
-use elab_types::{TextFault, TextRefusal};
 use sig_base::NoMemory;
 use sig_elab::Why;
+use sml_lexer::LexRefusal;
 
 /// What is wrong with a file or a query, at a place that is told beside it.
 #[derive(Clone, Copy, Debug, PartialEq, Eq)]
@@ -43,26 +43,16 @@ impl From<NoMemory> for SourceRefusal {
     }
 }
 
-impl From<TextRefusal> for SourceRefusal {
-    ghost from_gives = { λ text r. r ≡ refusal_of text };
+impl From<LexRefusal> for SourceRefusal {
+    ghost from_gives = { λ refusal r. r ≡ of_lexer refusal };
 
-    fn from(text: TextRefusal) -> SourceRefusal {
-        match text {
-            TextRefusal::Refused(wrong, place) => SourceRefusal::Refused(fault_of(wrong), place),
-            TextRefusal::NoMemory => SourceRefusal::NoMemory,
+    fn from(refusal: LexRefusal) -> SourceRefusal {
+        match refusal {
+            LexRefusal::BadByte(place) => SourceRefusal::Refused(Fault::BadByte, place),
+            LexRefusal::OpenComment(place) => SourceRefusal::Refused(Fault::OpenComment, place),
+            LexRefusal::LongName(place) => SourceRefusal::Refused(Fault::LongName, place),
+            LexRefusal::NoMemory => SourceRefusal::NoMemory,
         }
-    }
-}
-
-fn fault_of(wrong: TextFault) -> Fault
-    ensures { result ≡ of_text wrong }
-{
-    match wrong {
-        TextFault::BadByte => Fault::BadByte,
-        TextFault::OpenComment => Fault::OpenComment,
-        TextFault::LongName => Fault::LongName,
-        TextFault::Syntax => Fault::Syntax,
-        TextFault::TooDeep => Fault::TooDeep,
     }
 }
 

@@ -4,13 +4,13 @@
 mod decimal;
 mod fault;
 mod laws;
-mod library;
 mod lines;
 mod query;
 mod query_types;
 mod report;
 mod run;
 mod source;
+mod stages;
 #[cfg(test)]
 mod tests;
 mod texts;

@@ -1,15 +1,15 @@
 // The scheme that a query asks for.
 ghost use Rattle.std.specs.Prelude.{◌≡◌, ◌≤◌, length, IfOk, IfErr};
 ghost use Rattle.sml_lexer.specs.Tokens.{tokens as tokens_of};
-ghost use Rattle.elab_types.specs.Sources.{texts_of};
+ghost use Rattle.sig_elab.specs.Sources.{texts_of};
 ghost use Rattle.type_core.specs.Schemes.{IsScheme};
 ghost use Rattle.isosearch.specs.Query.{Asks, asked, queries};
-ghost use Rattle.elab_types.specs.Stages.{Reads, Tells, placed};
-ghost use Rattle.isosearch.specs.Refusals.{IsWithin, flaw_of};
+ghost use Rattle.isosearch.specs.Stages.{IsWithin, Reads, Tells, placed};
 
 use crate::fault::{Fault, SourceRefusal};
 use crate::query_types::{is_built, size, type_of};
-use elab_types::{Source, no_phrase, no_tokens, start_of};
+use crate::source::Source;
+use crate::stages::{no_phrase, start_of};
 use sig_elab::Why;
 use sml_lexer::{Token, lex};
 use std::alloc::Global;
@@ -25,7 +25,7 @@ const MAX_NORMAL_SIZE: u64 = 8_000;
 
 /// The scheme of a query, which is a type; `Refused` comes exactly where the query is refused.
 pub fn read_query(alloc: Global, bytes: &[u8]) -> Result<Scheme, SourceRefusal>
-    ensures value { Tells flaw_of (Asks bytes.now) result }
+    ensures value { Tells (Asks bytes.now) result }
     ensures scheme { IfOk result IsScheme }
     ensures within { IfErr result (λ r. IsWithin bytes.now r) }
 {
@@ -34,7 +34,7 @@ pub fn read_query(alloc: Global, bytes: &[u8]) -> Result<Scheme, SourceRefusal>
     }
     match lex(alloc, bytes) {
         Ok(tokens) => query_of(alloc, bytes, tokens.as_slice()),
-        Err(refusal) => Err(SourceRefusal::from(no_tokens(bytes, refusal))),
+        Err(refusal) => Err(SourceRefusal::from(refusal)),
     }
 }
 
@@ -42,13 +42,13 @@ pub fn read_query(alloc: Global, bytes: &[u8]) -> Result<Scheme, SourceRefusal>
 fn query_of(alloc: Global, bytes: &[u8], tokens: &[Token]) -> Result<Scheme, SourceRefusal>
     requires size { length bytes.now ≤ 4194304 }
     requires tokens { tokens_of bytes.now tokens.now }
-    ensures value { Tells flaw_of (Reads queries bytes.now) result }
+    ensures value { Tells (Reads queries bytes.now) result }
     ensures scheme { IfOk result IsScheme }
     ensures within { IfErr result (λ r. IsWithin bytes.now r) }
 {
     match parse_type(alloc, bytes, tokens) {
         Ok(parsed) => scheme_of(alloc, bytes, tokens, &parsed.ty),
-        Err(refusal) => Err(SourceRefusal::from(no_phrase(bytes, tokens, refusal))),
+        Err(refusal) => Err(no_phrase(bytes, tokens, refusal)),
     }
 }
 
@@ -61,7 +61,7 @@ fn scheme_of(
 ) -> Result<Scheme, SourceRefusal>
     requires size { length bytes.now ≤ 4194304 }
     requires tokens { tokens_of bytes.now tokens.now }
-    ensures value { Tells flaw_of (λ r. placed bytes.now tokens.now (asked (texts_of bytes.now tokens.now) e.now) ≡ r) result }
+    ensures value { Tells (λ r. placed bytes.now tokens.now (asked (texts_of bytes.now tokens.now) e.now) ≡ r) result }
     ensures scheme { IfOk result IsScheme }
     ensures within { IfErr result (λ r. IsWithin bytes.now r) }
 {

@@ -4,10 +4,11 @@ ghost use Rattle.isosearch.specs.Measures.{arrows_size, expression_size};
 ghost use Rattle.isosearch.specs.Texts.{texts};
 ghost use Rattle.isosearch.specs.Types as spec;
 ghost use Rattle.isosearch.specs.Types.{is_built as is_built_type, type_of as the_type};
+ghost use Rattle.sig_elab.specs.Types.{arrows as the_arrows};
 ghost use Rattle.type_core.specs.Lists.{all_true, sum_of};
 ghost use Rattle.type_core.specs.Size.{size_of};
 
-use elab_types::Source;
+use crate::source::Source;
 use sig_base::{Boxed, List, NoMemory};
 use std::alloc::Global;
 use ty_parser::TyExp;
@@ -206,6 +207,22 @@ fn types_of(alloc: Global, source: &Source<'_>, parts: &[TyExp]) -> Result<List<
         types.push(type_of(alloc, source, part)?)?;
     }
     Ok(types)
+}
+
+// The types with arrows between them, grouped to the right.
+#[tactic(auto, using(crate::proofs::Arrows::arrows_last))]
+fn arrows(alloc: Global, sides: List<Ty>) -> Result<Ty, NoMemory>
+    ensures value { IfOk result (λ t. t ≡ the_arrows sides) }
+{
+    let mut sides = sides;
+    let Some(last) = sides.pop() else {
+        return Ok(Ty::Tup(sides));
+    };
+    let mut to = last;
+    'sides: while let Some(from) = sides.pop() {
+        to = Ty::Arrow(Boxed::new(alloc, from)?, Boxed::new(alloc, to)?);
+    }
+    Ok(to)
 }
 
 // The constructors at these places, each applied to what stands before it, the first to the arguments.

@@ -1,6 +1,6 @@
 // A text with its tokens.
 ghost use Rattle.std.specs.Prelude.{◌≤◌, length};
-ghost use Rattle.elab_types.specs.Sources.{AreWithin};
+ghost use Rattle.sig_elab.specs.Sources.{AreWithin};
 
 use sml_lexer::Token;
 

@@ -1,11 +1,11 @@
 // The texts of tokens, and the type variables that they are.
 ghost use Rattle.std.specs.Prelude.{◌≡◌, ◌≤◌, length};
-ghost use Rattle.elab_types.specs.Sources.{is_equality_variable as marks_equality, text_at, texts_of};
+ghost use Rattle.sig_elab.specs.Sources.{is_equality_variable as marks_equality, text_at, texts_of};
 ghost use Rattle.sml_lexer.specs.Tokens.{tokens as tokens_of};
 ghost use Rattle.isosearch.specs.Texts.{texts};
 ghost use Rattle.isosearch.specs.Types.{first_place as the_first_place, variable};
 
-use elab_types::Source;
+use crate::source::Source;
 use sml_lexer::{Token, spans_inside, tokens_count};
 use type_core::VarId;
 

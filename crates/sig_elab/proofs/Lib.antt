@@ -1,5 +1,8 @@
+mod Held
+mod FirstPlaces
 mod Bodies
 mod Pushed
+mod ArrowChains
 mod Outcomes
 mod Records
 mod Constructed

@@ -1,3 +1,5 @@
-pub mod Values
+pub mod Sorts
+pub mod Tokens
+pub mod Types
 pub mod Descriptions
 pub mod Files

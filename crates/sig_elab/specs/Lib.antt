@@ -1,4 +1,6 @@
 pub mod Outcome
+pub mod Finding
+pub mod Sources
 pub mod Environments
 pub mod InitialEnvironment
 pub mod States

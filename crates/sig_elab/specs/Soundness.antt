@@ -22,8 +22,19 @@ use Rattle.sig_elab.specs.declared.entry.Entry.TheOpen.{Entry-F, Tycon, Value, S
 use Rattle.sig_elab.specs.declared.entry.TypeEntry.{TypeEntry}
 use Rattle.sig_elab.specs.declared.entry.UnitEntry.{UnitEntry}
 use Rattle.sig_elab.specs.declared.entry.ValueEntry.{ValueEntry}
-use Rattle.elab_types.specs.Soundness.{IsSoundFunction, IsSoundType}
 use Rattle.sig_elab.specs.Library.{Basis, library}
+
+-- a type over these names whose labels are spelled as labels are
+pub record IsSoundType (names : List TypeName) (t : Ty) : Type 0 where
+  pub over : IsTypeOver names t
+  pub labels : All IsLabel (labels_of t)
+
+-- a type function whose body is a type over these names, within the limits
+pub record IsSoundFunction (names : List TypeName) (f : TypeFn) : Type 0 where
+  pub arity : f.arity ≤ 1999
+  pub function : IsTypeFn f
+  pub body : IsSoundType names f.body
+  pub limits : IsWithinLimits f.body
 
 -- a scheme whose body is a type over these names, within the limits
 pub record IsSoundScheme (names : List TypeName) (s : Scheme) : Type 0 where

@@ -3,10 +3,11 @@ ghost use Rattle.std.specs.Prelude.{◌≡◌, [], IfOk, length};
 ghost use Rattle.sig_elab.specs.Outcome.{Gives};
 ghost use Rattle.sig_elab.specs.Parameters as spec;
 ghost use Rattle.sig_elab.specs.Parameters.{marked, numbered_from, parameters_checked, variables_at};
-ghost use Rattle.elab_types.specs.Views.{texts};
+ghost use Rattle.sig_elab.specs.Views.{texts};
 
+use crate::places::Places;
 use crate::refusal::{ElabRefusal, Why};
-use elab_types::{Places, Source};
+use crate::source::Source;
 use sig_base::{List, NoMemory};
 use std::alloc::Global;
 use type_core::{NameId, Ty, VarId};

@@ -1,15 +1,9 @@
-use Rattle.std.proofs.Common.{ap, ◌∙◌}
-use Rattle.elab_types.proofs.Readings.{no_phrase, phrase_read}
 use Rattle.isosearch.specs.Query.{queries}
-use Rattle.isosearch.specs.Refusals.{flaw_of}
-use Rattle.isosearch.proofs.Refused.{refused_within, told}
+use Rattle.isosearch.proofs.Refusing.{no_phrase, phrase_read}
 use Rattle.isosearch.proofs.query.query_of.Goals as goal
 
 pub returns-in-Ok-clause-value : goal.returns-in-Ok-clause-value
-returns-in-Ok-clause-value c = phrase_read queries _ flaw_of c.args.tokens.now c.in-Ok.parsed.ty _ c.requires.tokens c.in-Ok.ensures.tree c.in-Ok.ensures.shallow c.scheme_of.ensures.value
+returns-in-Ok-clause-value c = phrase_read queries _ c.args.tokens.now c.in-Ok.parsed.ty _ c.requires.tokens c.in-Ok.ensures.tree c.in-Ok.ensures.shallow c.scheme_of.ensures.value
 
 pub returns-in-Err-clause-value : goal.returns-in-Err-clause-value
-returns-in-Err-clause-value c = no_phrase queries _ c.args.tokens.now c.in-Err.refusal _ _ c.requires.tokens c.in-Err.ensures.refusal c.no_phrase.ensures.value (ap flaw_of c.from.ensures ∙ told _)
-
-pub returns-in-Err-clause-within : goal.returns-in-Err-clause-within
-returns-in-Err-clause-within c = rw c.from.ensures (refused_within _ _ c.requires.size c.no_phrase.ensures.within)
+returns-in-Err-clause-value c = no_phrase queries _ c.args.tokens.now c.in-Err.refusal _ c.requires.tokens c.in-Err.ensures.refusal c.no_phrase.ensures.value

@@ -1,10 +1,11 @@
 use Rattle.std.proofs.Common.{◌<◌, ◌≤◌, Ok, Err, sym, ap, ◌∙◌, subst, arith}
-use Rattle.elab_types.specs.Sources.{texts_of}
+use Rattle.sig_elab.specs.Sources.{texts_of}
 use Rattle.sig_elab.specs.declared.refusal.Why.TheVariants.{NormalTooLarge}
 use Rattle.type_core.specs.NormalSize.{normal_size_of}
 use Rattle.type_core.specs.Schemes.{closed}
 use Rattle.isosearch.specs.declared.fault.Fault.TheVariants as fault
-use Rattle.elab_types.specs.Stages.{placed, refused}
+use Rattle.isosearch.specs.declared.fault.SourceRefusal.TheVariants as source
+use Rattle.isosearch.specs.Stages.{placed}
 use Rattle.isosearch.specs.Types.{type_of}
 use Rattle.isosearch.proofs.Elaborated.{few_variables, measured_above, measured_below, query_closed, query_large, query_wide}
 use Rattle.isosearch.proofs.query.scheme_of.Goals as goal
@@ -14,7 +15,7 @@ returns-then-size-gt-MAX_SIZE-clause-value c =
     let texts = texts_of c.args.bytes.now c.args.tokens.now in
     let large = measured_above _ _ 200 (c.size.ensures.value texts) (omega arith) in
     ap (placed _ _) (query_large _ _ _ c.new-source.ensures (sym c.is_built.ensures.value ∙ c.if-not-is_built.false) large)
-    ∙ ap (λ at. refused fault.TooLarge at) (sym c.start_of-first.ensures.value)
+    ∙ ap (λ at. Err (source.Refused fault.TooLarge at)) (sym c.start_of-first.ensures.value)
 
 pub returns-then-normal_size-gt-MAX_NORMAL_SIZE-clause-value : goal.returns-then-normal_size-gt-MAX_NORMAL_SIZE-clause-value
 returns-then-normal_size-gt-MAX_NORMAL_SIZE-clause-value c =
@@ -23,7 +24,7 @@ returns-then-normal_size-gt-MAX_NORMAL_SIZE-clause-value c =
     let small = measured_below _ _ 200 (c.size.ensures.value texts) (omega arith) (omega arith) in
     let wide = measured_above _ _ 8000 c.normal_size.ensures.value (omega arith) in
     ap (placed _ _) (query_wide _ _ _ c.new-source.ensures (sym c.is_built.ensures.value ∙ c.if-not-is_built.false) small (subst (λ t. 8000 < normal_size_of t) t_is wide))
-    ∙ ap (λ at. refused (fault.Elab NormalTooLarge) at) (sym c.start_of-first.ensures.value)
+    ∙ ap (λ at. Err (source.Refused (fault.Elab NormalTooLarge) at)) (sym c.start_of-first.ensures.value)
 
 pub close-requires : goal.close-requires
 close-requires c =

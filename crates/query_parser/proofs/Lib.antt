@@ -1,7 +1,0 @@
-mod Searching
-mod Giving
-mod Levels
-mod Typed
-mod Asked
-mod OneAnswer
-mod Refused

@@ -1,4 +1,0 @@
-pub mod Constructors
-pub mod Types
-pub mod Queries
-pub mod Views
