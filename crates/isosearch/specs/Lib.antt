@@ -3,6 +3,7 @@ pub mod Texts
 pub mod Types
 pub mod Measures
 pub mod Stages
+pub mod Library
 pub mod Query
 pub mod Report
 pub mod Lines

@@ -4,6 +4,7 @@
 mod decimal;
 mod fault;
 mod laws;
+mod library;
 mod lines;
 mod query;
 mod query_types;

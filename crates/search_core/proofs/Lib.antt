@@ -1,6 +1,3 @@
-mod Flaws
-mod OneLoading
-mod Taking
 mod OneMeasure
 mod FewNodes
 mod OneMark

@@ -1,4 +1,2 @@
-pub mod Files
-pub mod Loading
 pub mod Search
 pub mod Report
