@@ -1,11 +1,13 @@
-// The part of a body that a type expression sees.
-use crate::body::Body;
+// What is seen of an environment.
+ghost use Rattle.sig_elab.specs.Indexes.{IsSeen};
 
-/// What a type expression sees of a body.
+use crate::entry::Entry;
+use crate::index::Index;
+
+/// What is seen of an environment: its first entries, and where the identifiers of all of them stand.
 #[derive(Clone, Copy)]
-pub enum Scope<'a> {
-    /// All of it.
-    All(&'a Body),
-    /// So many of its entries, which stand before the group that is being described.
-    Before(&'a Body, usize),
+pub struct Scope<'a> {
+    pub entries: &'a [Entry],
+    pub index: &'a Index,
+    ghost seen: { IsSeen index.now entries.now },
 }

@@ -120,8 +120,22 @@ fn files_are_refused(rt: HostRuntime) -> Result<(), Fail> {
             8,
         ),
         ("signature A = sig val x : list end", Why::WrongArity, 7),
-        ("signature A = B", Why::NotBuilt, 3),
-        ("structure A : sig end", Why::NotBuilt, 1),
+        ("signature A = B", Why::UnboundSignature, 3),
+        (
+            "signature A = sig type t sharing type t = u end",
+            Why::Unbound,
+            10,
+        ),
+        (
+            "signature A = sig type t = int end where type t = int",
+            Why::NotFlexible,
+            9,
+        ),
+        (
+            "signature A = sig val x : B.t end signature B = sig end",
+            Why::LateUnit,
+            10,
+        ),
     ];
     for (text, why, token) in rows {
         assert_eq!(rt;

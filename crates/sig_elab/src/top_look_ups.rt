@@ -1,0 +1,41 @@
+// Looking up top identifiers.
+ghost use Rattle.std.specs.Prelude.{◌≡◌, not, IfSome};
+ghost use Rattle.sig_elab.specs.Copies.{signature_in};
+ghost use Rattle.sig_elab.specs.Files.{is_new_unit};
+ghost use Rattle.sig_elab.specs.Kept.{IsTopOf};
+ghost use Rattle.sig_elab.specs.LookUps.{top_structure};
+ghost use Rattle.sig_elab.specs.Views.{entries_seen, unit_seen, units_seen};
+
+use crate::detail::Top;
+use crate::scope::Scope;
+use crate::tops::Tops;
+
+impl<'a> Tops<'a> {
+    /// What the top structure of this identifier has.
+    pub fn find_structure(&self, id: &[u8]) -> Option<Scope<'a>>
+        ensures value { entries_seen result ≡ top_structure id.now (units_seen self.now) }
+    {
+        match self.before.find_structure(id, self.before.len()) {
+            Some(found) => Some(found),
+            None => self.added.find_structure(id, self.count),
+        }
+    }
+
+    /// The signature of this identifier.
+    pub fn find_signature(&self, id: &[u8]) -> Option<Top<'a>>
+        ensures value { unit_seen result ≡ signature_in id.now (units_seen self.now) }
+        ensures top { IfSome result (IsTopOf self.now) }
+    {
+        match self.before.find_signature(id, self.before.len()) {
+            Some(found) => Some(found),
+            None => self.added.find_signature(id, self.count),
+        }
+    }
+
+    /// Whether a unit of the files before, or of this file, has the identifier.
+    pub fn has(&self, id: &[u8]) -> bool
+        ensures value { result ≡ not (is_new_unit id.now (units_seen self.now)) }
+    {
+        self.before.has(id, self.before.len()) || self.added.has(id, self.count)
+    }
+}
