@@ -1,5 +1,6 @@
 -- Lists of terms that have types, or convert, and functions of many arguments.
-use Rattle.std.proofs.Common.{◌≡◌, ℕ, ◌-◌, ◌≤◌, true, List, [], ◌∷◌, ◌++◌, map, length, take, drop, refl, sym, ap, ◌∙◌, subst, subst₂, arith, zero, suc, append_assoc, append-nil, slice_get}
+use Rattle.std.proofs.Common.{◌≡◌, ℕ, ◌-◌, ◌≤◌, ◌&&◌, true, List, [], ◌∷◌, ◌++◌, map, length, take, drop, refl, sym, ap, ap₂, ◌∙◌, subst, subst₂, arith, zero, suc, append_assoc, append-nil, slice_get}
+use Rattle.std.specs.List.{All}
 use Rattle.type_core.specs.declared.ty.Ty.{Ty}
 use Rattle.type_core.specs.Lists.{all_true}
 use Rattle.type_core.specs.Types.{IsType, is_type}
@@ -17,6 +18,15 @@ use Rattle.conv_build.specs.Functions.{arrows, abstractions, applied, variables}
 -- each of them is a type
 abbrev pub AreTypes : List Ty → Type 0
 AreTypes types = all_true (map is_type types) ≡ true
+
+pub all_types : (types : List Ty) → All IsType types → AreTypes types
+all_types [] k = refl
+all_types (a ∷ types) k = ap₂ ◌&&◌ (k 0 a (omega arith)) (all_types types (λ n d l. k (suc n) d (omega (arith, l))))
+
+pub each_type : (types : List Ty) → AreTypes types → All IsType types
+each_type [] k n d l = let no : ⊥ = omega (arith, l) in absurd no
+each_type (a ∷ types) k zero d l = (all_are_types a types k).0
+each_type (a ∷ types) k (suc n) d l = each_type types (all_are_types a types k).1 n d (omega (arith, l))
 
 pub arrows_are_types : (as' : List Ty) (b : Ty) → AreTypes as' → IsType b → IsType (arrows as' b)
 arrows_are_types [] b k l = l

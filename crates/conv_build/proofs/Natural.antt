@@ -131,15 +131,7 @@ module _ (from to : ℕ) (terms : ℕ → Term) where
         (join_moves g k _ ∙ ap (join t (to + k)) (sym (map_take (on k) (length (types t)) es)))
         (join_all_moves gs k _ ∙ ap (join_all ts (to + k)) (sym (map_drop (on k) (length (types t)) es)))
 
--- what commutes with substitution for all commutes with a shift, and with a substitution for one
-pub shifts_each : (go : ℕ → List Term → List Term) → ((from to : ℕ) (terms : ℕ → Term) (k : ℕ) (es : List Term) → map (λ x. traversed (images from to terms) x k) (go (from + k) es) ≡ go (to + k) (map (λ x. traversed (images from to terms) x k) es)) → (n j : ℕ) (es : List Term) → map (shifted n j) (go n es) ≡ go (n + j) (map (shifted n j) es)
-shifts_each go moves n j es =
-    let p : n ≡ n + 0 = omega arith in
-    let q : n + j + 0 ≡ n + j = omega arith in
-    map_same (shifted n j) (λ x. traversed (images n (n + j) term.Var) x 0) (shifted_all n j 0) (go n es)
-    ∙ ap (λ m. map (λ x. traversed (images n (n + j) term.Var) x 0) (go m es)) p ∙ moves n (n + j) term.Var 0 es
-    ∙ ap₂ go q (sym (map_same (shifted n j) (λ x. traversed (images n (n + j) term.Var) x 0) (shifted_all n j 0) es))
-
+-- what commutes with substitution for all commutes with a substitution for one
 pub substitutes_each : (go : ℕ → List Term → List Term) → ((from to : ℕ) (terms : ℕ → Term) (k : ℕ) (es : List Term) → map (λ x. traversed (images from to terms) x k) (go (from + k) es) ≡ go (to + k) (map (λ x. traversed (images from to terms) x k) es)) → (n : ℕ) (u : Term) (k : ℕ) (es : List Term) → map (λ x. traversed (image n u) x k) (go (n + 1 + k) es) ≡ go (n + k) (map (λ x. traversed (image n u) x k) es)
 substitutes_each go moves n u k es =
     map_same (λ x. traversed (image n u) x k) (λ x. traversed (images (n + 1) n (only n u)) x k) (substituted_one n k u) (go (n + 1 + k) es)

@@ -1,5 +1,6 @@
 -- The plain converters of a pairing and of its inverse.
 use Rattle.std.proofs.Common.{◌≡◌, ℕ, List, [], ◌∷◌, length, get_or, Some, slice_get, Result, Ok, Err, IfOk, refl, sym, ap, ◌∙◌, subst}
+use Rattle.std.specs.List.{All}
 use Rattle.std.proofs.lemmas.List.{length-map}
 use Rattle.std.proofs.lemmas.Option.{get_or_from_slice_get, slice_get_within}
 use Rattle.sig_base.specs.declared.no_memory.NoMemory.{NoMemory}
@@ -18,11 +19,12 @@ use Rattle.conv_terms.specs.declared.term.Term.TheVariants as term
 use Rattle.conv_typing.specs.Typing.{HasType, HaveTypes}
 use Rattle.conv_typing.specs.Conversion.{Converts, ConvertEach}
 use Rattle.conv_typing.specs.InversePair.{IsInversePair}
+use Rattle.conv_typing.proofs.Kept.{each_typed}
 use Rattle.conv_build.specs.CoordinateTypes.{coordinate_type, coordinate_types, types_of}
 use Rattle.conv_build.specs.SplitJoin.{join, split}
 use Rattle.conv_build.specs.Moving.{carried, moved, moved_back, no_term}
 use Rattle.conv_build.specs.PlainConverter.{plain_converter}
-use Rattle.conv_build.proofs.Lists.{length_each, same_each}
+use Rattle.conv_build.proofs.Lists.{all_types, length_each, same_each}
 use Rattle.conv_build.proofs.Formed.{coordinates_typed, formed}
 use Rattle.conv_build.proofs.Congruent.{split_converts}
 use Rattle.conv_build.proofs.Ways.{converter, converters_inverse}
@@ -44,11 +46,6 @@ module _ (a b : Ty) (p : PairTree) (ka : IsType a) (kb : IsType b) (k : Pairs �
   plain_inverse = subst (IsInversePair a b (plain_converter a b p)) converter_back
       (converters_inverse a b (formed a ka) (formed b kb) (forth_way facts) (back_way facts) facts.undone facts.redone)
 
-  pub there_and_back : (ctx : List Ty) (es : List Term) → HaveTypes ctx es (coordinate_types a) → ConvertEach ctx (coordinate_types a) (moved (inverse p) (coordinates b) (coordinates a) (length ctx) (moved p (coordinates a) (coordinates b) (length ctx) es)) es
-  there_and_back ctx es l =
-      let moved_es = moved p (coordinates a) (coordinates b) (length ctx) es in
-      subst (λ us. ConvertEach ctx (coordinate_types a) us es) (moved_by_the_inverse k (length ctx) moved_es (moved_length p (coordinates a) (coordinates b) (length ctx) es)) (facts.undone ctx es (same_each l))
-
 -- so is what is made, where it is the plain converter
 pub made_inverse : (a b : Ty) (p : PairTree) (r : Result Term NoMemory) → IsType a → IsType b → Pairs ◌≡◌ (coordinates a) (coordinates b) p → IfOk r (λ t. t ≡ plain_converter a b p) → IfOk r (λ t. IsInversePair a b t (plain_converter b a (inverse p)))
 made_inverse a b p (Ok t) ka kb k is = subst (λ t. IsInversePair a b t (plain_converter b a (inverse p))) (sym is) (plain_inverse a b p ka kb k)
@@ -59,3 +56,16 @@ pub place_has_term : (p : PairTree) (cs ds : List Coordinate) (i n : ℕ) (e : E
 place_has_term p cs ds i n e c d es t k at there here is =
     moved_at p cs ds es i (place_of e) e c d n (different (places_of (entries_of p)) (permutes ◌≡◌ k).distinct) at refl there here (slice_get_within es i t is)
     ∙ ap Some (carried_agree (arguments_of d) _ _ (entry_turned k i e c d at there here) n (get_or es i no_term) ∙ ap (carried (types_of (arguments_of d)) (moved (inverse (args_of e)) (arguments_of d) (arguments_of c)) n) (get_or_from_slice_get es i t no_term is))
+
+-- terms that are moved have the types of the coordinates that they are moved to, and moving them back undoes it
+module _ (ctx : List Ty) (c d : List Coordinate) (p : PairTree) (es : List Term) (kc : All IsType (types_of c)) (kd : All IsType (types_of d)) (k : Pairs ◌≡◌ c d p) (l : HaveTypes ctx es (types_of c)) where
+  moving : Facts p c d
+  moving = pairing_facts k (all_types (types_of c) kc) (all_types (types_of d) kd)
+
+  pub moved_typed : HaveTypes ctx (moved p c d (length ctx) es) (types_of d)
+  moved_typed = (each_typed (moving.forth ctx es es (same_each l))).0
+
+  pub there_and_back : ConvertEach ctx (types_of c) (moved (inverse p) d c (length ctx) (moved p c d (length ctx) es)) es
+  there_and_back =
+      let there = moved p c d (length ctx) es in
+      subst (λ us. ConvertEach ctx (types_of c) us es) (moved_by_the_inverse k (length ctx) there (moved_length p c d (length ctx) es)) (moving.undone ctx es (same_each l))

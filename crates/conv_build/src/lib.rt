@@ -15,8 +15,9 @@ mod tests;
 mod types;
 
 pub use laws::{
-    moving_back_is_moving_along_the_inverse, moving_there_and_back_undoes_itself,
-    places_have_the_terms_of_their_entries, plain_converters_are_inverse,
-    splitting_and_joining_undo_each_other,
+    coordinates_have_types, moving_back_is_moving_along_the_inverse,
+    moving_there_and_back_undoes_itself, places_have_the_terms_of_their_entries,
+    plain_converters_are_inverse, splitting_and_joining_undo_each_other,
+    splitting_joining_and_moving_keep_types,
 };
 pub use plain::redex_form;

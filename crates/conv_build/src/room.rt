@@ -42,8 +42,8 @@ fn all_have_room(terms: &[Term], from: u32, by: u32) -> bool
     true
 }
 
-/// A copy of the term of a context of `from` variables, in one of `by` more. No memory holds 2^32 binders that stand
-/// within one another.
+/// A copy of the term of a context of `from` variables, in one of `by` more. Where a level would reach 2^32 it answers
+/// want of memory.
 pub fn below(alloc: Global, t: &Term, from: u32, by: u32) -> Result<Term, NoMemory>
     ensures value { IfOk result (λ r. r ≡ shifted from by t.now) }
 {

@@ -1,18 +1,19 @@
 -- Conversion is kept by traversals whose images fit, and so by shifting and by substitution.
-use Rattle.std.proofs.Common.{◌≡◌, ℕ, ◌+◌, ◌-◌, ◌≤◌, List, [], ◌∷◌, ◌++◌, map, refl, sym, ap, ap₂, ◌∙◌, subst, subst₂, arith, length, slice_get, option_map, Some, zero, suc, append_assoc, length-append}
+use Rattle.std.proofs.Common.{◌≡◌, ℕ, ◌+◌, ◌-◌, ◌<◌, ◌≤◌, ◌⊎◌, inl, inr, List, [], ◌∷◌, ◌++◌, map, refl, sym, ap, ap₂, ◌∙◌, subst, subst₂, arith, length, slice_get, option_map, Some, zero, suc, append_assoc, append-nil, length-append}
 use Rattle.type_core.specs.declared.ty.Ty.{Ty}
 use Rattle.type_core.specs.declared.ty.Ty.TheVariants as ty
+use Rattle.type_core.specs.Types.{IsType}
 use Rattle.conv_terms.specs.declared.term.Term.{Term}
 use Rattle.conv_terms.specs.declared.term.Term.TheVariants as term
 use Rattle.conv_terms.specs.Shifting.{shifted}
 use Rattle.conv_terms.specs.Substitution.{Images, traversed, each_below, images, substituted, substituted_all}
 use Rattle.conv_terms.proofs.Equations.{traversed_var, traversed_lam, traversed_app, traversed_tup, traversed_proj}
-use Rattle.conv_terms.proofs.Moving.{raising, agreeing, shifted_traversed, images_other, all_of_shifted, all_of_substituted, raising_images}
-use Rattle.conv_typing.specs.Typing.{HasType, AreTyped}
-use Rattle.conv_typing.specs.Conversion.{Converts, ConvertEach, projections}
+use Rattle.conv_terms.proofs.Moving.{raising, agreeing, shifted_traversed, below_or_from, images_known, images_other, all_of_shifted, all_of_substituted, raising_images}
+use Rattle.conv_typing.specs.Typing.{HasType, HaveTypes, AreTyped}
+use Rattle.conv_typing.specs.Conversion.{Converts, ConvertEach, AreConvertible, projections}
 use Rattle.conv_typing.proofs.TypesAlone.{has_type_is_type}
 use Rattle.conv_typing.proofs.Kept.{converts_typed}
-use Rattle.conv_typing.proofs.Weakening.{Fits, traversed_typed, traversed_each, longer, one_more, shift_fits, terms_fit}
+use Rattle.conv_typing.proofs.Weakening.{Fits, traversed_typed, traversed_each, get_left, get_right, longer, one_more, shift_fits, terms_fit}
 
 pub length_of : (g d : List Ty) → length (g ++ d) ≡ length g + length d
 length_of g d = grind (arith, length-append)
@@ -102,9 +103,52 @@ shifted_converts g x d a t u k = subst₂ (Converts ((g ++ x) ++ d) a) (sym (pat
     path : (t : Term) → shifted (length g) (length x) t ≡ traversed (images (length g) (length (g ++ x)) term.Var) t (length d)
     path t = shifted_traversed (length g) (length x) t (length d) ∙ agreeing (raising (length g) (length x)) (images (length g) (length (g ++ x)) term.Var) t (length d) (length d) (λ n j. each n (length d + j))
 
--- terms for all variables
-pub all_converts : (ctx others inner : List Ty) (terms : ℕ → Term) (a : Ty) (t u : Term) → AreTyped terms ctx others → Converts (ctx ++ inner) a t u → Converts (others ++ inner) a (substituted_all (length ctx) (length others) terms t (length inner)) (substituted_all (length ctx) (length others) terms u (length inner))
-all_converts ctx others inner terms a t u typed k = traversed_converts terms ctx others (terms_fit terms ctx others typed) k inner refl
+-- below inner binders too, what becomes of a variable by the one converts to what becomes of it by the other
+abbrev pub Alike : Images → Images → List Ty → List Ty → Type 0
+Alike at to g h = (inner : List Ty) (n : ℕ) (a : Ty) → slice_get (g ++ inner) n ≡ Some a → IsType a → Converts (h ++ inner) a (at n (length inner)) (to n (length inner))
+
+module _ (at to : Images) (g h : List Ty) (alike : Alike at to g h) where
+  mutual
+    traversals_convert : {ctx : List Ty} {t : Term} {a : Ty} → HasType ctx t a → (inner : List Ty) → ctx ≡ g ++ inner → Converts (h ++ inner) a (traversed at t (length inner)) (traversed to t (length inner))
+    traversals_convert {a = a} (HasType.var n p l) inner is =
+        subst₂ (Converts (h ++ inner) a) (sym (traversed_var at n (length inner))) (sym (traversed_var to n (length inner))) (alike inner n a (subst (λ x. slice_get x n ≡ Some a) is p) l)
+    traversals_convert {ctx = ctx} (HasType.lam a {b} body l k) inner is =
+        subst₂ (Converts (h ++ inner) (ty.Arrow a b)) (sym (traversed_lam at a body (length inner))) (sym (traversed_lam to a body (length inner)))
+        (Converts.lam a (traversed at body (length inner + 1)) (traversed to body (length inner + 1)) l (subst₂ (λ x d. Converts x b (traversed at body d) (traversed to body d)) (sym (append_assoc h inner (a ∷ []))) (one_more inner a) (traversals_convert k (inner ++ a ∷ []) (longer g inner ctx a is))))
+    traversals_convert {a = b} (HasType.app f e k l) inner is =
+        subst₂ (Converts (h ++ inner) b) (sym (traversed_app at f e (length inner))) (sym (traversed_app to f e (length inner))) (Converts.app _ _ _ _ (traversals_convert k inner is) (traversals_convert l inner is))
+    traversals_convert (HasType.tup terms types less ks) inner is =
+        subst₂ (Converts (h ++ inner) (ty.Tup types)) (sym (traversed_tup at terms (length inner))) (sym (traversed_tup to terms (length inner))) (Converts.tup types _ _ less (traversals_convert_each ks inner is))
+    traversals_convert {a = a} (HasType.proj i e types less p k) inner is =
+        subst₂ (Converts (h ++ inner) a) (sym (traversed_proj at (i + 1) (length types) e (length inner))) (sym (traversed_proj to (i + 1) (length types) e (length inner))) (Converts.proj i types _ _ less p (traversals_convert k inner is))
+
+    traversals_convert_each : {ctx : List Ty} {terms : List Term} {types : List Ty} → HaveTypes ctx terms types → (inner : List Ty) → ctx ≡ g ++ inner → ConvertEach (h ++ inner) types (each_below (map (traversed at) terms) (length inner)) (each_below (map (traversed to) terms) (length inner))
+    traversals_convert_each HaveTypes.none inner is = ConvertEach.none
+    traversals_convert_each (HaveTypes.more k ks) inner is = ConvertEach.more (traversals_convert k inner is) (traversals_convert_each ks inner is)
+
+shifted_converts_end : (g x : List Ty) (a : Ty) (t u : Term) → Converts g a t u → Converts (g ++ x) a (shifted (length g) (length x) t) (shifted (length g) (length x) u)
+shifted_converts_end g x a t u k =
+    subst (λ c. Converts c a (shifted (length g) (length x) t) (shifted (length g) (length x) u)) (append-nil (g ++ x)) (shifted_converts g x [] a t u (subst (λ c. Converts c a t u) (sym (append-nil g)) k))
+
+-- convertible terms for all variables
+terms_alike : (terms others : ℕ → Term) (g h : List Ty) → AreConvertible terms others g h → Alike (images (length g) (length h) terms) (images (length g) (length h) others) g h
+terms_alike terms others g h each d n a l is = cases (below_or_from n (length g))
+  where
+    cases : (n < length g) ⊎ (length g ≤ n) → Converts (h ++ d) a (images (length g) (length h) terms n (length d)) (images (length g) (length h) others n (length d))
+    cases (inl i) =
+        subst₂ (Converts (h ++ d) a) (sym (images_known (length g) (length h) terms n (length d) i)) (sym (images_known (length g) (length h) others n (length d) i))
+        (shifted_converts_end h d a (terms n) (others n) (each n a (sym (get_left g d n i) ∙ l) is))
+    cases (inr i) =
+        let high : length h ≤ n - length g + length h = omega arith in
+        let e : n - length g + length h - length h ≡ n - length g = omega arith in
+        subst₂ (Converts (h ++ d) a) (sym (images_other (length g) (length h) terms n (length d) i)) (sym (images_other (length g) (length h) others n (length d) i))
+        (Converts.same (HasType.var _ (get_right h d _ high ∙ ap (slice_get d) e ∙ sym (get_right g d n i) ∙ l) is))
+
+pub all_converts : (ctx others inner : List Ty) (terms alike : ℕ → Term) (a : Ty) (t u : Term) → AreConvertible terms alike ctx others → Converts (ctx ++ inner) a t u → Converts (others ++ inner) a (substituted_all (length ctx) (length others) terms t (length inner)) (substituted_all (length ctx) (length others) alike u (length inner))
+all_converts ctx others inner terms alike a t u each k =
+    let typed : AreTyped terms ctx others = λ n b l is. (converts_typed (each n b l is)).0 in
+    Converts.chain (traversed_converts terms ctx others (terms_fit terms ctx others typed) k inner refl)
+    (traversals_convert (images (length ctx) (length others) terms) (images (length ctx) (length others) alike) ctx others (terms_alike terms alike ctx others each) (converts_typed k).1 inner refl)
 
 -- convertible terms for the last variable: both sides are redexes of functions that convert
 pub both_substituted : (g : List Ty) (b : Ty) (e f : Term) (a : Ty) (t u : Term) → Converts g b e f → Converts (g ++ b ∷ []) a t u → Converts g a (substituted (length g) e t) (substituted (length g) f u)

@@ -26,10 +26,6 @@ out_arrow a b = search (rules, the_lemmas)
 
 pub ruleset out_at = (out_var, out_con, out_rec, out_tup, out_arrow)
 
-abbrev domain : Ty → Ty-F Ty Field → Ty
-domain other (Arrow a b) = a
-domain other _ = other
-
 abbrev range : Ty → Ty-F Ty Field → Ty
 range other (Arrow a b) = b
 range other _ = other
@@ -37,9 +33,6 @@ range other _ = other
 abbrev parts : List Ty → Ty-F Ty Field → List Ty
 parts other (Tup ts) = ts
 parts other _ = other
-
-pub one_domain : (a b c d : Ty) → ty.Arrow a b ≡ ty.Arrow c d → a ≡ c
-one_domain a b c d e = sym (ap (domain a) (out_arrow a b)) ∙ ap (λ t. domain a (out-Ty t)) e ∙ ap (domain a) (out_arrow c d)
 
 pub one_range : (a b c d : Ty) → ty.Arrow a b ≡ ty.Arrow c d → b ≡ d
 one_range a b c d e = sym (ap (range b) (out_arrow a b)) ∙ ap (λ t. range b (out-Ty t)) e ∙ ap (range b) (out_arrow c d)

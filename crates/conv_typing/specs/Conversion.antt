@@ -39,3 +39,7 @@ mutual
   pub data ConvertEach : List Ty → List Ty → List Term → List Term → Type 0 where
     none : {ctx : List Ty} → ConvertEach ctx [] [] []
     more : {ctx : List Ty} {a : Ty} {t u : Term} {types : List Ty} {ts us : List Term} → Converts ctx a t u → ConvertEach ctx types ts us → ConvertEach ctx (a ∷ types) (t ∷ ts) (u ∷ us)
+
+-- the terms convert, two for each variable of a context whose type is one, at the types of those variables in another
+abbrev pub AreConvertible : (ℕ → Term) → (ℕ → Term) → List Ty → List Ty → Type 0
+AreConvertible terms alike ctx others = (n : ℕ) (a : Ty) → slice_get ctx n ≡ Some a → IsType a → Converts others a (terms n) (alike n)

@@ -7,8 +7,8 @@ ghost use Rattle.conv_terms.specs.declared.term.Term.{Term};
 ghost use Rattle.conv_terms.specs.declared.term.Term.TheVariants as term;
 ghost use Rattle.conv_terms.specs.Shifting.{shifted};
 ghost use Rattle.conv_terms.specs.Substitution.{substituted, substituted_all};
-ghost use Rattle.conv_typing.specs.Typing.{HasType, AreTyped};
-ghost use Rattle.conv_typing.specs.Conversion.{Converts, ConvertEach};
+ghost use Rattle.conv_typing.specs.Typing.{HasType};
+ghost use Rattle.conv_typing.specs.Conversion.{Converts, ConvertEach, AreConvertible};
 
 /// Terms that convert have the type at which they do.
 pub fn convertible_terms_have_the_type()
@@ -40,7 +40,7 @@ pub fn substitution_keeps_conversion()
     ensures law { (ctx : List Ty) (b : Ty) (e f : Term) (a : Ty) (t u : Term) → Converts ctx b e f → Converts (ctx ++ b ∷ []) a t u → Converts ctx a (substituted (length ctx) e t) (substituted (length ctx) f u) }
 {}
 
-/// Conversion is kept where terms of their types are substituted for all variables of a context.
+/// Conversion is kept where convertible terms are substituted for all variables of a context.
 pub fn substituting_all_keeps_conversion()
-    ensures law { (ctx others inner : List Ty) (terms : ℕ → Term) (a : Ty) (t u : Term) → AreTyped terms ctx others → Converts (ctx ++ inner) a t u → Converts (others ++ inner) a (substituted_all (length ctx) (length others) terms t (length inner)) (substituted_all (length ctx) (length others) terms u (length inner)) }
+    ensures law { (ctx others inner : List Ty) (terms alike : ℕ → Term) (a : Ty) (t u : Term) → AreConvertible terms alike ctx others → Converts (ctx ++ inner) a t u → Converts (others ++ inner) a (substituted_all (length ctx) (length others) terms t (length inner)) (substituted_all (length ctx) (length others) alike u (length inner)) }
 {}

@@ -112,6 +112,8 @@ fn names_are_numbered(rt: HostRuntime) -> Result<(), Fail> {
     let alloc = rt.alloc();
     let mut table = NameTable::new(alloc)?;
     assert_eq!(rt; table.len(), 14);
+    let copy = table.copy(alloc)?;
+    assert_eq!(rt; copy.len(), 14);
     assert_eq!(rt; arity(&table, NameId(9)), 1);
     assert_eq!(rt;
         described(alloc, &mut table, b"S.t", 0, Equality::Never)?,

@@ -7,7 +7,7 @@ use Rattle.isosearch.specs.Ending.{Completes, EndsAsDue, EndsExactly, EndsWith, 
 use Rattle.isosearch.specs.Lines.{Says}
 use Rattle.isosearch.specs.Outcome.{Due, Outcome}
 use Rattle.isosearch.specs.Words.{Command}
-use Rattle.isosearch.specs.declared.report.Report.{Report}
+use Rattle.isosearch.specs.declared.run.Report.{Report}
 use Rattle.isosearch.specs.declared.run.Refusal.{Refusal}
 use Rattle.isosearch.specs.declared.run.Refusal.TheVariants as refusal
 use Rattle.isosearch.proofs.Saying.{Appends-none}

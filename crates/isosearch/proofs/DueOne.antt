@@ -6,8 +6,10 @@ use Rattle.sig_base.specs.Reading.{Holds, HoldsMore}
 use Rattle.sig_parser.specs.Files.{File}
 use Rattle.ty_parser.specs.Phrases.{Phrase}
 use Rattle.type_core.specs.declared.library.Library.{Library}
-use Rattle.type_core.specs.declared.member.Member.{Member}
 use Rattle.type_core.specs.declared.ty.Scheme.{Scheme}
+use Rattle.search_core.specs.declared.answer.Hit.{Hit}
+use Rattle.search_core.specs.declared.answer.Mode.{Mode}
+use Rattle.search_core.specs.Search.{AreHits}
 use Rattle.isosearch.specs.declared.fault.Fault.{Fault}
 use Rattle.isosearch.specs.declared.fault.SourceRefusal.{SourceRefusal}
 use Rattle.isosearch.specs.declared.fault.SourceRefusal.TheVariants as source
@@ -15,18 +17,13 @@ use Rattle.isosearch.specs.Library.{files}
 use Rattle.isosearch.specs.Lines.{fault_text, query_name, refusal_line}
 use Rattle.isosearch.specs.Outcome.{Answers, Due, IsMissing, Loads, Outcome, all, answer, bad, bad_query, found, long, missing, refusal, refused, searched, whole}
 use Rattle.isosearch.specs.Query.{Asks, long as long_query, queries, short, source_limit}
-use Rattle.isosearch.specs.Report.{Hits, no_members, hit, no_hit}
 use Rattle.isosearch.specs.Stages.{Reads}
-use Rattle.isosearch.specs.Words.{Command}
+use Rattle.isosearch.specs.Words.{Command, Request}
 use Rattle.isosearch.proofs.OneReading.{Lexing, OneTree, one_reading}
 
--- the hits among the members are one list
-one_hits : {scheme : Scheme} {members hits others : List Member} → Hits scheme members hits → Hits scheme members others → hits ≡ others
-one_hits no_members no_members = refl
-one_hits (hit {member = member} equal rest) (hit same further) = ap (λ found. member ∷ found) (one_hits rest further)
-one_hits (hit equal rest) (no_hit apart further) = absurd (apart equal)
-one_hits (no_hit apart rest) (hit equal further) = absurd (apart equal)
-one_hits (no_hit apart rest) (no_hit other further) = one_hits rest further
+-- a query has one list of hits
+abbrev pub OneAnswer : Type 0
+OneAnswer = (library : Library) (mode : Mode) (scheme : Scheme) (hits others : List Hit) → AreHits library mode scheme hits → AreHits library mode scheme others → hits ≡ others
 
 module _ (told : FileMap) (path : List ℕ) where
   -- the file at the path is one
@@ -56,7 +53,7 @@ same_err x y a b is also same = cc
 ok_err_not : {A E : Type 0} (x : A) (y : E) (a b : Result A E) → a ≡ Ok x → b ≡ Err y → a ≡ b → ⊥
 ok_err_not x y a b is also same = cc
 
-module _ (lexing : Lexing) (one_file : OneTree File) (one_type : OneTree Phrase) where
+module _ (lexing : Lexing) (one_file : OneTree File) (one_type : OneTree Phrase) (one_hits : OneAnswer) where
   one_text : (told : FileMap) (path bytes others : List ℕ) (a b : Result Library SourceRefusal) → Holds (Some told) path bytes → Holds (Some told) path others → Reads files bytes a → Reads files others b
       → (bytes ≡ others) × (a ≡ b)
   one_text told path bytes others a b holds also x y =
@@ -96,16 +93,16 @@ module _ (lexing : Lexing) (one_file : OneTree File) (one_type : OneTree Phrase)
   one_asking query a b (short few x) (short less y) = one_reading queries lexing one_type query a b x y
 
   -- over a library one outcome is due
-  one_answer : (library : Library) (query : Option (List ℕ)) (a b : Outcome) → Answers library query a → Answers library query b → a ≡ b
-  one_answer library query a b all all = refl
-  one_answer library query a b (bad_query {query = q} {fault = f} {place = j} x) (bad_query {fault = g} {place = k} y) =
+  one_answer : (library : Library) (request : Request) (a b : Outcome) → Answers library request a → Answers library request b → a ≡ b
+  one_answer library request a b all all = refl
+  one_answer library request a b (bad_query {query = q} {fault = f} {place = j} x) (bad_query {fault = g} {place = k} y) =
       let fault = same_fault f g j k _ _ refl refl (one_asking q _ _ x y) in
       λ i. refused 4 (refusal_line query_name q (fault.1 i) (fault_text (fault.0 i)))
-  one_answer library query a b (bad_query {query = q} {fault = f} {place = j} x) (found {scheme = t} y are) = absurd (ok_err_not t (source.Refused f j) _ _ refl refl (one_asking q _ _ y x))
-  one_answer library query a b (found {query = q} {scheme = s} x are) (bad_query {fault = g} {place = k} y) = absurd (ok_err_not s (source.Refused g k) _ _ refl refl (one_asking q _ _ x y))
-  one_answer library query a b (found {query = q} {scheme = s} x are) (found {scheme = t} {hits = more} y also) =
+  one_answer library request a b (bad_query {query = q} {fault = f} {place = j} x) (found {scheme = t} y are) = absurd (ok_err_not t (source.Refused f j) _ _ refl refl (one_asking q _ _ y x))
+  one_answer library request a b (found {query = q} {scheme = s} x are) (bad_query {fault = g} {place = k} y) = absurd (ok_err_not s (source.Refused g k) _ _ refl refl (one_asking q _ _ x y))
+  one_answer library request a b (found {mode = m} {query = q} {scheme = s} {hits = hits} x are) (found {scheme = t} {hits = others} y also) =
       let same : s ≡ t = same_ok s t _ _ refl refl (one_asking q _ _ x y) in
-      ap (searched library) (one_hits are (subst (λ r. Hits r library.members more) (sym same) also))
+      ap (searched library) (one_hits library m s hits others are (subst (λ r. AreHits library m r others) (sym same) also))
 
   -- where the files are told, one outcome is due
   pub due_is_one : (told : FileMap) (command : Command) (a b : Outcome) → Due (Some told) command a → Due (Some told) command b → a ≡ b
@@ -114,4 +111,4 @@ module _ (lexing : Lexing) (one_file : OneTree File) (one_type : OneTree Phrase)
   due_is_one told command a b (answer {library = l} x due) (refusal y) = absurd (ok_err_not l b _ _ refl refl (one_loading told command.file _ _ x y))
   due_is_one told command a b (answer {library = l} x due) (answer {library = m} y also) =
       let same : l ≡ m = same_ok l m _ _ refl refl (one_loading told command.file _ _ x y) in
-      one_answer l command.query a b due (subst (λ n. Answers n command.query b) (sym same) also)
+      one_answer l command.request a b due (subst (λ n. Answers n command.request b) (sym same) also)

@@ -4,9 +4,10 @@ pub mod Digits
 pub mod DueEnds
 pub mod DueOne
 pub mod Elaborated
-pub mod HitsFound
 pub mod OneReading
 pub mod Places
+pub mod QueryTypes
 pub mod Refusing
+pub mod Reported
 pub mod Saying
 pub mod Sizes

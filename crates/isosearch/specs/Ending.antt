@@ -6,7 +6,7 @@ use Rattle.sig_base.specs.Writing.{AppendsPart}
 use Rattle.isosearch.specs.Lines.{Says, fault_text, no_memory_line, not_read_line, query_name, refusal_at, too_long_line}
 use Rattle.isosearch.specs.Outcome.{Due, Outcome, refused}
 use Rattle.isosearch.specs.Words.{Command}
-use Rattle.isosearch.specs.declared.report.Report.{Report}
+use Rattle.isosearch.specs.declared.run.Report.{Report}
 use Rattle.isosearch.specs.declared.run.Refusal.{Refusal}
 use Rattle.isosearch.specs.declared.run.Refusal.TheVariants as refusal
 

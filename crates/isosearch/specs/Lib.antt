@@ -5,7 +5,6 @@ pub mod Measures
 pub mod Stages
 pub mod Library
 pub mod Query
-pub mod Report
 pub mod Lines
 pub mod Outcome
 pub mod Ending

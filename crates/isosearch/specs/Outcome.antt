@@ -4,16 +4,18 @@ use Rattle.std.specs.FinMap.{get}
 use Rattle.sig_base.specs.FileMap.{FileMap}
 use Rattle.sig_base.specs.Reading.{Holds, HoldsMore}
 use Rattle.type_core.specs.declared.library.Library.{Library}
-use Rattle.type_core.specs.declared.member.Member.{Member}
 use Rattle.type_core.specs.declared.ty.Scheme.{Scheme}
+use Rattle.search_core.specs.declared.answer.Hit.{Hit}
+use Rattle.search_core.specs.declared.answer.Mode.{Mode}
+use Rattle.search_core.specs.Report.{list_text, report_text}
+use Rattle.search_core.specs.Search.{AreHits}
 use Rattle.isosearch.specs.declared.fault.Fault.{Fault}
 use Rattle.isosearch.specs.declared.fault.SourceRefusal.TheVariants as source
 use Rattle.isosearch.specs.Library.{files}
 use Rattle.isosearch.specs.Lines.{fault_text, not_read_line, query_name, refusal_line, too_long_line}
 use Rattle.isosearch.specs.Query.{Asks, source_limit}
-use Rattle.isosearch.specs.Report.{Hits, report}
 use Rattle.isosearch.specs.Stages.{Reads}
-use Rattle.isosearch.specs.Words.{Command}
+use Rattle.isosearch.specs.Words.{Command, Request, list, search}
 
 -- a status, the bytes for the output, and the line for standard error
 pub record Outcome : Type 0 where
@@ -39,27 +41,27 @@ pub data Loads (told : Option FileMap) (path : List ℕ) : Result Library Outcom
   whole : {bytes : List ℕ} {library : Library} → Holds told path bytes → length bytes ≤ source_limit → Reads files bytes (Ok library) → Loads told path (Ok library)
 
 -- 0 with a hit, 1 without
-abbrev pub status_of : List Member → ℕ
+abbrev pub status_of : List Hit → ℕ
 status_of [] = 1
 status_of (hit ∷ hits) = 0
 
--- the outcome of `list`: the report of all members
+-- the outcome of `list`: the report of the whole library
 abbrev pub listed : Library → Outcome
-listed library = record { status = 0; out = report library.names library.members; err = [] }
+listed library = record { status = 0; out = list_text library; err = [] }
 
 -- the outcome of a search: the report of its hits
-abbrev pub searched : Library → List Member → Outcome
-searched library hits = record { status = status_of hits; out = report library.names hits; err = [] }
+abbrev pub searched : Library → List Hit → Outcome
+searched library hits = record { status = status_of hits; out = report_text library hits; err = [] }
 
--- what is due over a library: without a query all members; for a query its refusal, or its hits
-pub data Answers (library : Library) : Option (List ℕ) → Outcome → Type 0 where
-  all : Answers library None (listed library)
-  bad_query : {query : List ℕ} {fault : Fault} {place : ℕ} → Asks query (Err (source.Refused fault place))
-      → Answers library (Some query) (refused 4 (refusal_line query_name query place (fault_text fault)))
-  found : {query : List ℕ} {scheme : Scheme} {hits : List Member} → Asks query (Ok scheme) → Hits scheme library.members hits
-      → Answers library (Some query) (searched library hits)
+-- what is due over a library: a list of it; or for a search the refusal of the query, or the query's hits in the mode
+pub data Answers (library : Library) : Request → Outcome → Type 0 where
+  all : Answers library list (listed library)
+  bad_query : {mode : Mode} {query : List ℕ} {fault : Fault} {place : ℕ} → Asks query (Err (source.Refused fault place))
+      → Answers library (search mode query) (refused 4 (refusal_line query_name query place (fault_text fault)))
+  found : {mode : Mode} {query : List ℕ} {scheme : Scheme} {hits : List Hit} → Asks query (Ok scheme) → AreHits library mode scheme hits
+      → Answers library (search mode query) (searched library hits)
 
 -- the outcome that is due: the refusal of the file, or what is due over its library
 pub data Due (told : Option FileMap) (command : Command) : Outcome → Type 0 where
   refusal : {outcome : Outcome} → Loads told command.file (Err outcome) → Due told command outcome
-  answer : {library : Library} {outcome : Outcome} → Loads told command.file (Ok library) → Answers library command.query outcome → Due told command outcome
+  answer : {library : Library} {outcome : Outcome} → Loads told command.file (Ok library) → Answers library command.request outcome → Due told command outcome

@@ -4,6 +4,7 @@ ghost use Rattle.sig_base.specs.FileMap.{FileMap};
 ghost use Rattle.isosearch.specs.Outcome.{Due, Outcome};
 ghost use Rattle.isosearch.specs.Words.{Command};
 
+use search_core::queries_have_one_answer;
 use sml_lexer::{no_refusal, one_list, one_refusal};
 
 /// Where the files are told, at most one outcome is due.
@@ -15,4 +16,5 @@ pub fn one_outcome()
     one_refusal();
     sig_parser::one_tree();
     ty_parser::one_tree();
+    queries_have_one_answer();
 }

@@ -8,7 +8,6 @@ mod library;
 mod lines;
 mod query;
 mod query_types;
-mod report;
 mod run;
 mod source;
 mod stages;

@@ -2,7 +2,9 @@
 ghost use Rattle.std.specs.Prelude.{◌≡◌, ◌≤◌, length, IfOk, IfErr};
 ghost use Rattle.sml_lexer.specs.Tokens.{tokens as tokens_of};
 ghost use Rattle.sig_elab.specs.Sources.{texts_of};
-ghost use Rattle.type_core.specs.Schemes.{IsScheme};
+ghost use Rattle.ty_parser.specs.Phrases.{Phrase};
+ghost use Rattle.ty_parser.specs.Sorts.{sorts_of};
+ghost use Rattle.search_core.specs.Search.{CanBeSearchedFor};
 ghost use Rattle.isosearch.specs.Query.{Asks, asked, queries};
 ghost use Rattle.isosearch.specs.Stages.{IsWithin, Reads, Tells, placed};
 
@@ -10,6 +12,7 @@ use crate::fault::{Fault, SourceRefusal};
 use crate::query_types::{is_built, size, type_of};
 use crate::source::Source;
 use crate::stages::{no_phrase, start_of};
+use search_core::closed_types_can_be_searched_for;
 use sig_elab::Why;
 use sml_lexer::{Token, lex};
 use std::alloc::Global;
@@ -26,7 +29,7 @@ const MAX_NORMAL_SIZE: u64 = 8_000;
 /// The scheme of a query, which is a type; `Refused` comes exactly where the query is refused.
 pub fn read_query(alloc: Global, bytes: &[u8]) -> Result<Scheme, SourceRefusal>
     ensures value { Tells (Asks bytes.now) result }
-    ensures scheme { IfOk result IsScheme }
+    ensures scheme { IfOk result CanBeSearchedFor }
     ensures within { IfErr result (λ r. IsWithin bytes.now r) }
 {
     if bytes.len() > MAX_SOURCE as usize {
@@ -43,7 +46,7 @@ fn query_of(alloc: Global, bytes: &[u8], tokens: &[Token]) -> Result<Scheme, Sou
     requires size { length bytes.now ≤ 4194304 }
     requires tokens { tokens_of bytes.now tokens.now }
     ensures value { Tells (Reads queries bytes.now) result }
-    ensures scheme { IfOk result IsScheme }
+    ensures scheme { IfOk result CanBeSearchedFor }
     ensures within { IfErr result (λ r. IsWithin bytes.now r) }
 {
     match parse_type(alloc, bytes, tokens) {
@@ -61,10 +64,12 @@ fn scheme_of(
 ) -> Result<Scheme, SourceRefusal>
     requires size { length bytes.now ≤ 4194304 }
     requires tokens { tokens_of bytes.now tokens.now }
+    requires phrase { Phrase (sorts_of bytes.now tokens.now) e.now }
     ensures value { Tells (λ r. placed bytes.now tokens.now (asked (texts_of bytes.now tokens.now) e.now) ≡ r) result }
-    ensures scheme { IfOk result IsScheme }
+    ensures scheme { IfOk result CanBeSearchedFor }
     ensures within { IfErr result (λ r. IsWithin bytes.now r) }
 {
+    closed_types_can_be_searched_for();
     let source = Source::new(bytes, tokens);
     let first = start_of(bytes, tokens, 0);
     if !is_built(e, &source) {

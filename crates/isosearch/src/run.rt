@@ -5,9 +5,11 @@ ghost use Rattle.sig_base.specs.Faults.{NoneFell, Rose};
 ghost use Rattle.sig_base.specs.Writing.{AppendsPart};
 ghost use Rattle.isosearch.specs.Ending.{Completes, Decides, EndsAsDue, EndsExactly, EndsShort, IsAnswered, IsCutShort, IsDecided, IsRefused, outcome_of, reported};
 ghost use Rattle.isosearch.specs.Lines.{Says, no_memory_line, not_read_line, not_written_line, usage_line};
-ghost use Rattle.isosearch.specs.Outcome.{Answers, Due, Loads};
-ghost use Rattle.isosearch.specs.Words.{command_of as the_command, given};
+ghost use Rattle.isosearch.specs.Outcome.{Answers, Due, Loads, listed, searched};
+ghost use Rattle.isosearch.specs.Words.{command_of as the_command, given, search as the_search};
 ghost use Rattle.isosearch.specs.declared.run.Refusal.TheVariants as refusal;
+ghost use Rattle.search_core.specs.declared.answer.Hit.{Hit};
+ghost use Rattle.search_core.specs.Search.{AreHits, CanBeSearchedFor};
 ghost use Rattle.type_core.specs.ValidLibrary.{IsValidLibrary};
 
 use crate::fault::{Fault, SourceRefusal};
@@ -15,12 +17,21 @@ use crate::laws::one_outcome;
 use crate::library::read_library;
 use crate::lines;
 use crate::query::{MAX_SOURCE, read_query};
-use crate::report::{Report, report_all, report_hits};
-use crate::words::{Command, command_of};
-use sig_base::{Files, NoMemory, ReadRefusal, Sink, read_whole, write_all};
+use crate::words::{Command, Request, command_of};
+use search_core::{
+    Mode, hits_are_members, list_report, report, search, valid_libraries_can_be_searched,
+};
+use sig_base::{Files, NoMemory, ReadRefusal, Sink, Text, read_whole, write_all};
 use sml_lexer::{LineCol, position};
 use std::alloc::Global;
-use type_core::Library;
+use type_core::{Library, Scheme};
+
+/// The text for the output, and whether it is that of a search which found nothing.
+#[derive(Drop)]
+pub struct Report {
+    pub text: Text,
+    pub found_none: bool,
+}
 
 /// Why there is no report.
 #[derive(Clone, Copy, Debug, PartialEq, Eq)]
@@ -65,16 +76,48 @@ fn load<F: Files>(alloc: Global, path: &str, files: &mut F) -> Result<Library, R
     }
 }
 
-// The report of a query over a library.
-fn find(alloc: Global, library: &Library, query: &str) -> Result<Report, Refusal>
+// The report of a whole library.
+fn report_all(alloc: Global, library: &Library) -> Result<Report, NoMemory>
+    ensures { IfOk result (λ r. reported r ≡ listed library.now) }
+{
+    let text = list_report(alloc, library)?;
+    Ok(Report {
+        text,
+        found_none: false,
+    })
+}
+
+// The report of the hits of a scheme in a library.
+fn report_hits(
+    alloc: Global,
+    library: &Library,
+    mode: Mode,
+    scheme: &Scheme,
+) -> Result<Report, NoMemory>
     requires valid { IsValidLibrary library.now }
-    ensures found { IfOk result (λ r. Answers library.now (Some query.now) (reported r)) }
-    ensures refusal { (path : List ℕ) → IfErr result (λ r. Decides (Answers library.now (Some query.now)) path r) }
+    requires scheme { CanBeSearchedFor scheme.now }
+    ensures { IfOk result (λ r. (hits : List Hit) × AreHits library.now mode scheme.now hits × (reported r ≡ searched library.now hits)) }
+{
+    valid_libraries_can_be_searched();
+    hits_are_members();
+    let answer = search(alloc, library, mode, scheme)?;
+    let text = report(alloc, library, &answer)?;
+    Ok(Report {
+        text,
+        found_none: answer.hits.is_empty(),
+    })
+}
+
+// The report of a query over a library.
+fn find(alloc: Global, library: &Library, mode: Mode, query: &str) -> Result<Report, Refusal>
+    requires valid { IsValidLibrary library.now }
+    ensures found { IfOk result (λ r. Answers library.now (the_search mode query.now) (reported r)) }
+    ensures refusal { (path : List ℕ) → IfErr result (λ r. Decides (Answers library.now (the_search mode query.now)) path r) }
     ensures fault { IsErrOf result Refusal.ReadFault → ⊥ }
 {
     match read_query(alloc, query.as_bytes()) {
         Ok(scheme) => {
-            let report = report_hits(alloc, library, &scheme)?;
+            let report = report_hits(alloc, library, mode, &scheme)?;
             Ok(report)
         }
         Err(SourceRefusal::Refused(fault, place)) => {
@@ -93,9 +136,9 @@ fn answer<F: Files>(alloc: Global, command: Command<'_>, files: &mut F) -> Resul
     ensures kept { F.files files.new ≡ F.files files.old }
 {
     match load(alloc, command.file, files) {
-        Ok(library) => match command.query {
-            Some(query) => find(alloc, &library, query),
-            None => {
+        Ok(library) => match command.request {
+            Request::Search(mode, query) => find(alloc, &library, mode, query),
+            Request::List => {
                 let report = report_all(alloc, &library)?;
                 Ok(report)
             }

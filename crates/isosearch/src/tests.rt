@@ -108,7 +108,9 @@ fn tells_commands(rt: HostRuntime) -> Result<(), Fail> {
         (&["list", "L.sig", "L.sig"], 2, USAGE),
         (&["same", "int"], 2, USAGE),
         (&["same", "-", "L.sig"], 2, USAGE),
-        (&["iso", "int", "L.sig"], 2, USAGE),
+        (&["iso", "int", "-"], 2, USAGE),
+        (&["general", "int", "L.sig"], 2, USAGE),
+        (&["iso", "int", "M.sig"], 5, "M.sig: cannot be read\n"),
         (&["list", "M.sig"], 5, "M.sig: cannot be read\n"),
         (&["same", "int ->", "M.sig"], 5, "M.sig: cannot be read\n"),
     ];
@@ -161,33 +163,73 @@ val B.r : {2 : B.t, a : 'a -> ''b, b : int}
     Ok(())
 }
 
-// A file, a query, and its hits.
+// A mode, a query, a file, and the hits.
 #[test]
 fn finds_values(rt: HostRuntime) -> Result<(), Fail> {
+    let g =
+        "signature G = sig val d : int -> int * int val u : int -> unit val w : unit -> bool end";
+    let v = "signature V = sig val c : ('a -> 'b) * ('b -> 'a) val l : 'a -> 'b list -> int end";
+    let q = "signature Q = sig val g : (int * string) list -> int end";
+    let map = "val L.map : ('a -> 'b) -> 'a list -> 'b list\n1 found\n";
+    let none = "0 found\n";
     let rows = [
+        ("same", "('x -> 'y) -> 'x list -> 'y list", L, map),
+        ("same", "int -> int -> int", L, none),
         (
-            L,
-            "('x -> 'y) -> 'x list -> 'y list",
-            "val L.map : ('a -> 'b) -> 'a list -> 'b list\n1 found\n",
-        ),
-        (L, "int -> int -> int", "0 found\n"),
-        (
-            "signature M = sig val f : 'x -> 'x datatype t = A of int | B type u = int val g : ''x -> ''x exception E val h : 'y -> 'y end",
+            "same",
             "'a -> 'a",
+            "signature M = sig val f : 'x -> 'x datatype t = A of int | B type u = int val g : ''x -> ''x exception E val h : 'y -> 'y end",
             "val M.f : 'a -> 'a\nval M.h : 'a -> 'a\n2 found\n",
         ),
         (
-            "signature P = sig type u = int val left : (int * u) * int val flat : int * u * unit list end",
+            "same",
             "int * int * (unit) list",
+            "signature P = sig type u = int val left : (int * u) * int val flat : int * u * unit list end",
             "val P.flat : int * int * unit list\n1 found\n",
         ),
+        ("iso", "'x list * ('x -> 'y) -> 'y list", L, map),
+        (
+            "iso",
+            "int -> int -> int",
+            L,
+            "val L.add : int * int -> int\n1 found\n",
+        ),
+        (
+            "iso",
+            "(int * int -> int) * (int * int -> int)",
+            L,
+            "val L.divMod : int * int -> int * int\n1 found\n",
+        ),
+        ("iso", "unit", L, "val L.ignore : 'a -> unit\n1 found\n"),
+        ("iso", "(string * int) list -> int", q, none),
+        (
+            "iso",
+            "(int -> int) * (int -> int)",
+            g,
+            "val G.d : int -> int * int\n1 found\n",
+        ),
+        ("iso", "unit", g, "val G.u : int -> unit\n1 found\n"),
+        ("iso", "bool", g, "val G.w : unit -> bool\n1 found\n"),
+        ("iso", "('a -> 'b) * ('a -> 'b)", v, none),
+        (
+            "iso",
+            "('y -> 'x) * ('x -> 'y)",
+            v,
+            "val V.c : ('a -> 'b) * ('b -> 'a)\n1 found\n",
+        ),
+        (
+            "iso",
+            "'a list * 'b -> int",
+            v,
+            "val V.l : 'a -> 'b list -> int\n1 found\n",
+        ),
     ];
-    for (text, query, out) in rows {
-        let words = ["same", query, "F"];
-        let status = if out == "0 found\n" { 1 } else { 0 };
+    for (mode, query, text, out) in rows {
+        let words = [mode, query, "F"];
+        let status = if out == none { 1 } else { 0 };
         assert!(rt;
             ends(rt.alloc(), &words, sound("F", text), status, out, "")?,
-            "{query} in {text}"
+            "{mode} {query} in {text}"
         );
     }
     Ok(())
@@ -378,7 +420,7 @@ fn refuses_queries(rt: HostRuntime) -> Result<(), Fail> {
         } else {
             (4, "", err.as_str())
         };
-        let words = ["same", query.as_str(), "L.sig"];
+        let words = ["iso", query.as_str(), "L.sig"];
         assert!(rt;
             ends(rt.alloc(), &words, sound("L.sig", L), status, out, err)?,
             "{line}"

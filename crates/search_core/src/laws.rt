@@ -1,16 +1,25 @@
 // What holds of libraries and of hits.
-ghost use Rattle.std.specs.Prelude.{◌≡◌, List};
+ghost use Rattle.std.specs.Prelude.{◌≡◌, ◌≤◌, List};
 ghost use Rattle.type_core.specs.declared.library.Library.{Library};
 ghost use Rattle.type_core.specs.declared.ty.Scheme.{Scheme};
+ghost use Rattle.type_core.specs.declared.ty.Ty.{Ty};
+ghost use Rattle.type_core.specs.NormalSize.{normal_size_of};
+ghost use Rattle.type_core.specs.Schemes.{closed};
+ghost use Rattle.type_core.specs.Types.{IsType};
 ghost use Rattle.type_core.specs.ValidLibrary.{IsValidLibrary};
 ghost use Rattle.search_core.specs.declared.answer.Hit.{Hit};
 ghost use Rattle.search_core.specs.declared.answer.Mode.{Mode};
 ghost use Rattle.search_core.specs.Report.{AreMembers};
-ghost use Rattle.search_core.specs.Search.{AreHits, CanBeSearched};
+ghost use Rattle.search_core.specs.Search.{AreHits, CanBeSearched, CanBeSearchedFor};
 
 /// A valid library can be searched.
 pub fn valid_libraries_can_be_searched()
     ensures law { (library : Library) → IsValidLibrary library → CanBeSearched library }
+{}
+
+/// The scheme of a type whose normal form is within the limit can be searched for.
+pub fn closed_types_can_be_searched_for()
+    ensures law { (t : Ty) → IsType t → normal_size_of t ≤ 8000 → CanBeSearchedFor (closed t) }
 {}
 
 /// Hits are members of the library, as a report asks.

@@ -12,7 +12,10 @@ mod reports;
 mod searching;
 
 pub use answer::{Answer, Hit, Mode};
-pub use laws::{hits_are_members, queries_have_one_answer, valid_libraries_can_be_searched};
+pub use laws::{
+    closed_types_can_be_searched_for, hits_are_members, queries_have_one_answer,
+    valid_libraries_can_be_searched,
+};
 pub use reports::{list_report, report};
 pub use searching::search;
 

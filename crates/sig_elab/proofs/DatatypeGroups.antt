@@ -9,7 +9,6 @@ use Rattle.type_core.specs.declared.member.Kind.TheVariants.{Con}
 use Rattle.type_core.specs.declared.ty.Ty.{Ty}
 use Rattle.type_core.specs.declared.ty.VarId.{VarId}
 use Rattle.sig_elab.specs.declared.body.Body.{Body}
-use Rattle.sig_elab.specs.declared.progress.Progress.{Progress}
 use Rattle.sig_elab.specs.declared.refusal.ElabRefusal.{ElabRefusal}
 use Rattle.sig_elab.specs.declared.entry.TypeEntry.{TypeEntry}
 use Rattle.sig_elab.specs.Bodies.{Described, Site, added}
@@ -31,7 +30,7 @@ next : (ds : List DataDesc) (i : ℕ) (d e : DataDesc) (n : ℕ) (site : Site) (
     ≡ and_then (constructors_described d.cons (datatype_family n (variables_at site.texts d.params)) site env s) (λ r. group_constructed (drop (i + 1) ds) (n + 1) site r.0 r.1)
 next ds i d e n site env s within is = ap (λ rest. group_constructed rest n site env s) (dropped ds i d e within is)
 
-pub group_ends : (ds : List DataDesc) (i : ℕ) (d e : DataDesc) (n : ℕ) (site : Site) (env : Environment) (s : State) (t : Progress) (whole : Described) (result : Result Body ElabRefusal) (x : ElabRefusal) → i < length ds → d ≡ get_or ds i e
+pub group_ends : (ds : List DataDesc) (i : ℕ) (d e : DataDesc) (n : ℕ) (site : Site) (env : Environment) (s t : State) (whole : Described) (result : Result Body ElabRefusal) (x : ElabRefusal) → i < length ds → d ≡ get_or ds i e
     → group_constructed (drop i ds) n site env s ≡ whole → IsErrAnd result (λ other. other ≡ x)
     → GivesBody (constructors_described d.cons (datatype_family n (variables_at site.texts d.params)) site env s) (Err x) t → GivesBody whole result t
 group_ends ds i d e n site env s t whole result x within is so_far handed gives =

@@ -74,7 +74,7 @@ known_behind places units id place p there behind is placed = ap not (sym (none_
     clash : (q : ℕ) → place_of (is_unit id) units ≡ Some q → ⊥
     clash q e =
         let same : p ≡ q = same_place p q (sym there ∙ is ∙ placed id q e) in
-        let within = (stands (is_unit id) units q (record { kind = Sig; id = []; entries = []; first_name = 0; name_count = 0 }) e).0 in
+        let within = (stands (is_unit id) units q (record { kind = Sig; id = []; entries = [] }) e).0 in
         omega (arith, same, within, behind)
 
 pub known_within : (places : Places) (units : List UnitEntry) (id : List ℕ) (place : Option ℕ) (p : ℕ) (unit : UnitEntry) → place ≡ Some p → p < length units → unit ≡ get_or units p unit → place ≡ place_at places id → ArePlaced places units

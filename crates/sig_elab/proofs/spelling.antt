@@ -1,3 +1,4 @@
+pub mod Spelled
 pub mod Sorts
 pub mod Tokens
 pub mod Types

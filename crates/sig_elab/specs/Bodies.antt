@@ -1,20 +1,14 @@
 -- Bodies: where one stands, and how an entry is added to it.
 use Rattle.std.specs.Prelude.{ℕ, List, [], ◌∷◌, ◌++◌, Ok}
 use Rattle.sig_elab.specs.declared.entry.Entry.{Entry}
-use Rattle.sig_elab.specs.declared.entry.UnitEntry.{UnitEntry}
 use Rattle.sig_elab.specs.Environments.{Environment}
 use Rattle.sig_elab.specs.Outcome.{Outcome, and_then}
 use Rattle.sig_elab.specs.States.{State, entry_weight, weighed}
 
--- where a body stands: the texts of the file's tokens, the path of the body, the bodies around it from within outwards,
--- the number of names when it began, the top identifiers that were declared before, and those of the present declaration
+-- where a body stands: the texts of the file's tokens, and the path of the body
 pub record Site : Type 0 where
   pub texts : List (List ℕ)
   pub path : List ℕ
-  pub around : List Environment
-  pub base : ℕ
-  pub units : List UnitEntry
-  pub declaring : List (List ℕ)
 
 -- the environment and the state after a phrase
 abbrev pub Described : Type 0
@@ -32,11 +26,3 @@ in_turn step (x ∷ xs) site own s = and_then (step x site own s) (λ r. in_turn
 -- an environment with one more entry, which is weighed at the token
 abbrev pub added : Site → Entry → ℕ → Environment → State → Described
 added site entry token env s = and_then (weighed (entry_weight site.path entry) token s) (λ after. Ok (env ++ entry ∷ [], after))
-
--- the site of what stands in a body, at a path
-abbrev pub site_within : List ℕ → Environment → Site → Site
-site_within path own site = record { texts = site.texts; path = path; around = own ∷ site.around; base = site.base; units = site.units; declaring = site.declaring }
-
--- the site of a body that begins with so many names
-abbrev pub site_from : ℕ → Site → Site
-site_from base site = record { texts = site.texts; path = site.path; around = site.around; base = base; units = site.units; declaring = site.declaring }

@@ -1,5 +1,5 @@
 -- Constructors of datatypes and of exceptions.
-use Rattle.std.specs.Prelude.{ℕ, List, [], ◌∷◌, Option, Some, None, Ok}
+use Rattle.std.specs.Prelude.{ℕ, List, Option, Some, None, Ok}
 use Rattle.sig_parser.specs.declared.tree.ConDesc.{ConDesc}
 use Rattle.ty_parser.specs.declared.tree.TypeAt.{TypeAt}
 use Rattle.type_core.specs.declared.member.Kind.{Kind}
@@ -23,7 +23,7 @@ pub record Family : Type 0 where
 
 -- where the type of an argument stands
 abbrev pub argument_place : Site → ℕ → Variables → Environment → Place
-argument_place site first variables own = record { site = site; own = own; first = first; variables = variables }
+argument_place site first variables own = record { texts = site.texts; first = first; variables = variables; own = own }
 
 -- the type of a constructor: what it makes, or an arrow to it, within the limits at the argument's first token
 abbrev pub constructor_type : Option TypeAt → Family → Site → Environment → State → Outcome (Ty × State)

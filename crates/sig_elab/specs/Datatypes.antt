@@ -50,7 +50,7 @@ group_constructed (d ∷ ds) n site own s =
 
 -- the state where so many names from n on admit equality as far as their constructors, among the entries, let them
 abbrev pub settled : ℕ → ℕ → Environment → State → State
-settled n count entries s = record { names = with_greatest n count entries s.names; gone = s.gone; weight = s.weight }
+settled n count entries s = record { names = with_greatest n count entries s.names; weight = s.weight }
 
 -- a group: first all heads, whose names are then visible, then all constructors; last, equality is settled
 abbrev pub datatypes_described : List DataDesc → Specified

@@ -6,17 +6,14 @@ use Rattle.sig_elab.specs.declared.entry.ValueEntry.{ValueEntry}
 use Rattle.sig_elab.specs.declared.entry.Entry.{Entry, out-Entry}
 use Rattle.sig_elab.specs.declared.entry.Entry.TheVariants as entry
 use Rattle.sig_elab.specs.Finding.{first_given, none_of}
-use Rattle.sig_elab.specs.declared.entry.Entry.TheOpen.{Entry-F, Tycon, Value, Structure}
+use Rattle.sig_elab.specs.declared.entry.Entry.TheOpen.{Entry-F, Tycon, Value}
 
--- a type constructor, a value and a structure as entries
+-- a type constructor and a value as entries
 abbrev pub the_type : TypeEntry → Entry
 the_type type = entry.Tycon type
 
 abbrev pub the_value : ValueEntry → Entry
 the_value value = entry.Value value
-
-abbrev pub the_structure : List ℕ → List Entry → Entry
-the_structure id entries = entry.Structure id entries
 
 -- what is described, in the order of description
 abbrev pub Environment : Type 0
@@ -46,18 +43,6 @@ is_type id entry = is_some (type_of id entry)
 abbrev pub is_value : List ℕ → Entry → Bool
 is_value id entry = is_some (value_of id entry)
 
-abbrev pub structure_at : List ℕ → Entry-F Entry → Option Environment
-structure_at id (Structure name entries) = (if bytes_eq id name then Some entries else None)
-structure_at id _ = None
-
--- what the entry has, as a structure of this identifier
-abbrev pub structure_of : List ℕ → Entry → Option Environment
-structure_of id entry = structure_at id (out-Entry entry)
-
--- whether the entry is a structure of this identifier
-abbrev pub is_structure : List ℕ → Entry → Bool
-is_structure id entry = is_some (structure_of id entry)
-
 abbrev pub type_step : Entry-F Entry → Option TypeEntry
 type_step (Tycon type) = Some type
 type_step _ = None
@@ -80,14 +65,6 @@ type_in id env = first_given (type_of id) env
 -- the value of this identifier
 abbrev pub value_in : List ℕ → Environment → Option ValueEntry
 value_in id env = first_given (value_of id) env
-
--- what the structure of this identifier has
-abbrev pub structure_in : List ℕ → Environment → Option Environment
-structure_in id env = first_given (structure_of id) env
-
--- whether no structure has the identifier
-abbrev pub is_new_structure : List ℕ → Environment → Bool
-is_new_structure id env = none_of (is_structure id) env
 
 -- whether no type constructor has the identifier
 abbrev pub is_new_type : List ℕ → Environment → Bool

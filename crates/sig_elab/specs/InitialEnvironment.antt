@@ -1,9 +1,8 @@
 -- The initial environment: what every file may use (the Definition, appendix C, and the Basis Library).
-use Rattle.std.specs.Prelude.{ℕ, ◌+◌, false, List, [], ◌∷◌, ◌++◌, codes}
+use Rattle.std.specs.Prelude.{ℕ, false, List, [], ◌∷◌, ◌++◌, codes}
 use Rattle.type_core.specs.declared.member.Kind.TheVariants.{Con}
 use Rattle.type_core.specs.declared.ty.Ty.{Ty}
 use Rattle.type_core.specs.declared.ty.Ty.TheVariants as ty
-use Rattle.type_core.specs.declared.ty.VarId.{VarId}
 use Rattle.sig_elab.specs.declared.entry.Entry.{Entry}
 use Rattle.sig_elab.specs.declared.entry.Entry.TheVariants as entry
 use Rattle.sig_elab.specs.Environments.{Environment}

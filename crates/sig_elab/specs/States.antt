@@ -1,32 +1,25 @@
--- The state of elaboration: the names so far, which of them were realized or joined away, and the weight of all that was described.
-use Rattle.std.specs.Prelude.{ℕ, ◌+◌, ◌&&◌, Bool, false, not, nat_le, List, [], ◌∷◌, ◌++◌, length, codes, slice_index_or, Ok}
+-- The state of elaboration: the names so far, and the weight of all that was described.
+use Rattle.std.specs.Prelude.{ℕ, ◌+◌, nat_le, List, [], ◌∷◌, ◌++◌, length, codes, Ok}
 use Rattle.type_core.specs.declared.library.Tycon.{Tycon}
 use Rattle.type_core.specs.declared.member.Member.{Member}
 use Rattle.type_core.specs.declared.names.Equality.{Equality}
 use Rattle.type_core.specs.declared.names.TypeName.{TypeName}
 use Rattle.type_core.specs.Weight.{tycon_weight, member_weight}
-use Rattle.elab_env.specs.Names.{described, is_described}
+use Rattle.elab_env.specs.Names.{described}
 use Rattle.sig_elab.specs.declared.refusal.Why.TheVariants.{LibraryTooLarge}
 use Rattle.sig_elab.specs.declared.entry.TypeEntry.{TypeEntry}
 use Rattle.sig_elab.specs.declared.entry.ValueEntry.{ValueEntry}
 use Rattle.sig_elab.specs.declared.entry.Entry.{Entry, out-Entry}
 use Rattle.sig_elab.specs.declared.entry.Entry.TheOpen.{Entry-F, Tycon as tycon, Value, Structure}
-use Rattle.sig_elab.specs.Environments.{Environment}
 use Rattle.sig_elab.specs.Outcome.{Outcome, checked}
 
--- the names in the order of their numbers, for each of them whether it was realized or joined away, and the weight
 pub record State : Type 0 where
   pub names : List TypeName
-  pub gone : List Bool
   pub weight : ℕ
-
--- whether the name of this number is free: it was described, and neither realized nor joined away
-abbrev pub is_free : State → ℕ → Bool
-is_free s n = is_described s.names n && not (slice_index_or s.gone n false)
 
 -- the state with one more name, which gets the next number
 abbrev pub with_name : List ℕ → ℕ → Equality → State → State
-with_name path arity equality s = record { names = s.names ++ described path arity equality ∷ []; gone = s.gone ++ false ∷ []; weight = s.weight }
+with_name path arity equality s = record { names = s.names ++ described path arity equality ∷ []; weight = s.weight }
 
 -- the path of what is described in a body
 abbrev pub within : List ℕ → List ℕ → List ℕ
@@ -52,4 +45,4 @@ entry_weight path entry = weight_step path (out-Entry entry)
 abbrev pub weighed : ℕ → ℕ → State → Outcome State
 weighed amount token s =
     checked (nat_le (s.weight + amount) 8000000) LibraryTooLarge token
-    (Ok (record { names = s.names; gone = s.gone; weight = s.weight + amount }))
+    (Ok (record { names = s.names; weight = s.weight + amount }))

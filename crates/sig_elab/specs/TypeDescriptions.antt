@@ -1,5 +1,5 @@
 -- The specifications `type` and `eqtype`.
-use Rattle.std.specs.Prelude.{ℕ, ◌+◌, ◌&&◌, Bool, false, nat_le, List, [], ◌∷◌, ◌++◌, length, Option, Some, None, Ok}
+use Rattle.std.specs.Prelude.{ℕ, ◌+◌, Bool, false, nat_le, List, [], length, Option, Some, None, Ok}
 use Rattle.sig_parser.specs.declared.tree.TypeDesc.{TypeDesc}
 use Rattle.ty_parser.specs.declared.tree.TypeAt.{TypeAt}
 use Rattle.type_core.specs.declared.names.Equality.{Equality}
@@ -27,7 +27,7 @@ head parameters is_new id site next =
 
 -- the type of a right side, in which the parameters may stand
 abbrev pub right_place : Site → ℕ → List VarId → Environment → Place
-right_place site first vs before = record { site = site; own = before; first = first; variables = Parameters false vs }
+right_place site first vs before = record { texts = site.texts; first = first; variables = Parameters false vs; own = before }
 
 -- what a description without right side stands for, a new name, or its right side
 abbrev pub right_side : Option TypeAt → List ℕ → Equality → List VarId → Site → Environment → State → Outcome (TypeFn × State)

@@ -1,5 +1,6 @@
 -- The type that a type expression stands for (the Definition, rules 44 to 49).
-use Rattle.std.specs.Prelude.{ℕ, ◌+◌, ◌==◌, ◌&&◌, Bool, true, false, not, is_some, nat_le, bytes_eq, if◌then◌else◌, List, [], ◌∷◌, ◌++◌, length, map, Option, Ok}
+use Rattle.std.specs.Prelude.{ℕ, ◌==◌, ◌&&◌, Bool, not, nat_le, bytes_eq, if◌then◌else◌, List, [], ◌∷◌, ◌++◌, length, map, Option, Ok}
+use Rattle.std.specs.Option.{option_or}
 use Rattle.std.specs.Ordering.{is_lt}
 use Rattle.ty_parser.specs.declared.tree.TyExp.{TyExp}
 use Rattle.ty_parser.specs.declared.tree.TyExp.TheOpen.{TyExp-F, FieldExp-F, Var, Fields, Tuple, Arrows, Apply}
@@ -14,13 +15,13 @@ use Rattle.type_core.specs.Labels.{label_order, are_tuple_labels}
 use Rattle.type_core.specs.Size.{size_of}
 use Rattle.type_core.specs.TypeFunctions.{applied}
 use Rattle.type_core.specs.Variables.{occurs, place}
-use Rattle.sig_elab.specs.declared.refusal.Why.TheVariants.{WrongArity, Duplicate, FreeVariable, TypeTooLarge, TypeTooHigh}
-use Rattle.sig_elab.specs.Bodies.{Site}
-use Rattle.sig_elab.specs.Environments.{Environment}
+use Rattle.sig_elab.specs.declared.entry.TypeEntry.{TypeEntry}
+use Rattle.sig_elab.specs.declared.refusal.Why.TheVariants.{Unbound, WrongArity, Duplicate, FreeVariable, TypeTooLarge, TypeTooHigh, NotBuilt}
+use Rattle.sig_elab.specs.Environments.{Environment, type_in}
 use Rattle.sig_elab.specs.Finding.{none_of}
-use Rattle.sig_elab.specs.LookUps.{function_at}
-use Rattle.sig_elab.specs.Outcome.{Outcome, and_then, checked}
-use Rattle.sig_elab.specs.Sources.{text_at, variable}
+use Rattle.sig_elab.specs.InitialEnvironment.{initial_environment}
+use Rattle.sig_elab.specs.Outcome.{Outcome, and_then, checked, required}
+use Rattle.sig_elab.specs.Sources.{text_at, variable, is_qualified}
 use Rattle.sig_elab.specs.States.{State}
 
 -- which variables may stand in a type: any, or these parameters, with their marks or without
@@ -28,13 +29,13 @@ pub data Variables : Type 0 where
   Any : Variables
   Parameters : Bool → List VarId → Variables
 
--- where a type expression stands: the site and the body so far, the first token of the whole expression, and the
--- variables that may stand in it
+-- where a type expression stands: the texts of the file's tokens, the first token of the whole expression, the
+-- variables that may stand in it, and the body so far
 pub record Place : Type 0 where
-  pub site : Site
-  pub own : Environment
+  pub texts : List (List ℕ)
   pub first : ℕ
   pub variables : Variables
+  pub own : Environment
 
 -- the type, and the state afterwards
 abbrev pub Typed : Type 0
@@ -54,12 +55,17 @@ limited first t s =
     (checked (nat_le (height_of t) 200) TypeTooHigh first
     (Ok (t, s)))
 
+-- the type constructor of an identifier: in the body, else among the initial types
+abbrev pub found_type : List ℕ → Environment → Option TypeEntry
+found_type id own = option_or (type_in id own) (type_in id initial_environment)
+
 -- the type constructor at a token, applied to arguments
 abbrev pub constructed : Place → ℕ → List Ty → State → Outcome (Ty × State)
 constructed p token arguments s =
-    and_then (function_at token (length arguments) p.site p.own s) (λ r.
-    checked (length arguments == r.0.arity) WrongArity token
-    (limited p.first (applied r.0 arguments) r.1))
+    checked (not (is_qualified (text_at p.texts token))) NotBuilt token
+    (required (found_type (text_at p.texts token) p.own) Unbound token (λ entry.
+    checked (length arguments == entry.fun.arity) WrongArity token
+    (limited p.first (applied entry.fun arguments) s)))
 
 -- each of the constructors applied to what stands before it
 abbrev pub constructed_on : Place → Ty → List ℕ → State → Outcome (Ty × State)
@@ -94,9 +100,9 @@ is_new_label label fields = none_of (λ field. bytes_eq label field.label) field
 abbrev pub fields_typed : Place → List Field → List (ℕ × Typed) → State → Outcome (List Field × State)
 fields_typed p done [] s = Ok (done, s)
 fields_typed p done (field ∷ fields) s =
-    checked (is_new_label (text_at p.site.texts field.0) done) Duplicate field.0
+    checked (is_new_label (text_at p.texts field.0) done) Duplicate field.0
     (and_then (field.1 p s)
-    (λ r. fields_typed p (done ++ record { label = text_at p.site.texts field.0; ty = r.0 } ∷ []) fields r.1))
+    (λ r. fields_typed p (done ++ record { label = text_at p.texts field.0; ty = r.0 } ∷ []) fields r.1))
 
 -- fields in label order with one more, which stands before the first whose label comes after its own
 abbrev pub inserted : Field → List Field → List Field
@@ -120,7 +126,7 @@ record_of (field ∷ fields) =
 
 -- the type of one level
 abbrev pub typed_step : TyExp-F Typed (ℕ × Typed) → Typed
-typed_step (Var token) p s = and_then (variable_of p.variables (variable p.site.texts token) token) (λ t. Ok (t, s))
+typed_step (Var token) p s = and_then (variable_of p.variables (variable p.texts token) token) (λ t. Ok (t, s))
 typed_step (Fields fields) p s = and_then (fields_typed p [] fields s) (λ r. limited p.first (record_of (in_label_order r.0)) r.1)
 typed_step (Tuple parts) p s = and_then (all_typed parts p s) (λ r. limited p.first (ty.Tup r.0) r.1)
 typed_step (Arrows sides) p s = and_then (all_typed sides p s) (λ r. limited p.first (arrows r.0) r.1)

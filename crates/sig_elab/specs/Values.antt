@@ -1,7 +1,6 @@
 -- Value specifications.
-use Rattle.std.specs.Prelude.{ℕ, nat_le, List, [], ◌∷◌, Ok}
+use Rattle.std.specs.Prelude.{ℕ, nat_le, List}
 use Rattle.sig_parser.specs.declared.tree.ValDesc.{ValDesc}
-use Rattle.ty_parser.specs.declared.tree.TypeAt.{TypeAt}
 use Rattle.type_core.specs.declared.member.Kind.{Kind}
 use Rattle.type_core.specs.declared.member.Kind.TheVariants.{Val}
 use Rattle.type_core.specs.declared.ty.Ty.{Ty}
@@ -13,7 +12,6 @@ use Rattle.sig_elab.specs.Bodies.{Site, Specified, added, in_turn}
 use Rattle.sig_elab.specs.Environments.{Environment, is_new_value, the_value}
 use Rattle.sig_elab.specs.Outcome.{Outcome, and_then, checked}
 use Rattle.sig_elab.specs.Sources.{text_at}
-use Rattle.sig_elab.specs.States.{State}
 use Rattle.sig_elab.specs.Types.{Any, Place, typed}
 
 -- a value of this type, closed over all its variables
@@ -22,7 +20,7 @@ closed_value id kind t = record { id = id; kind = kind; scheme = closed t }
 
 -- the type of a value, in which any variable may stand
 abbrev pub value_place : Site → ℕ → Environment → Place
-value_place site first own = record { site = site; own = own; first = first; variables = Any }
+value_place site first own = record { texts = site.texts; first = first; variables = Any; own = own }
 
 -- a type whose normal form has at most 8,000 nodes, and what follows
 abbrev pub normal_limited : {A : Type 0} → ℕ → Ty → Outcome A → Outcome A

@@ -1,23 +1,22 @@
 // Entries that are weighed and added to a body.
-ghost use Rattle.std.specs.Prelude.{◌≡◌, ◌++◌, ◌∷◌, [], IsTrue, IfOk, OnOk};
+ghost use Rattle.std.specs.Prelude.{◌≡◌, ◌++◌, ◌∷◌, [], IsTrue, IfOk};
 ghost use Rattle.sig_elab.specs.Bodies.{added};
-ghost use Rattle.sig_elab.specs.Environments.{is_new_type, is_new_value, the_type, the_value, is_new_structure, the_structure};
+ghost use Rattle.sig_elab.specs.Environments.{is_new_type, is_new_value, the_type, the_value};
 ghost use Rattle.sig_elab.specs.Sources.{text_at};
 ghost use Rattle.sig_elab.specs.TypeDescriptions.{plain_type};
 ghost use Rattle.sig_elab.specs.Values.{closed_value};
-ghost use Rattle.sig_elab.specs.Standing.{Stands, AreOver, IsSettledScheme, IsSettledType, Mentions};
-ghost use Rattle.sig_elab.specs.Views.{GivesBody, body_at, site_at, state_of, texts};
+ghost use Rattle.sig_elab.specs.Views.{GivesBody, site_of, state_of, texts};
+ghost use Rattle.type_core.specs.Schemes.{closed};
 
 use crate::body::Body;
-use crate::closing::scheme_of;
 use crate::entry::{TypeEntry, ValueEntry};
 use crate::progress::Progress;
 use crate::refusal::ElabRefusal;
 use crate::site::Site;
-use crate::weights::{entry_weight, weight_at};
-use sig_base::{List, Text};
+use crate::weights::entry_weight;
+use sig_base::{List, NoMemory, Text};
 use std::alloc::Global;
-use type_core::{Kind, Ty, TypeFn};
+use type_core::{Kind, Scheme, Ty, TypeFn, close, size};
 
 /// The body with one more type constructor, whose identifier is new, weighed at the token.
 pub fn add_type(
@@ -28,13 +27,9 @@ pub fn add_type(
     own: Body,
     progress: &mut Progress,
 ) -> Result<Body, ElabRefusal>
-    requires stands { Stands progress.old site.now own.entries.items }
-    requires new { IsTrue (is_new_type entry.id own.entries.items) }
-    requires settled { IsSettledType progress.old.table entry.fun.body }
-    ensures outcome { GivesBody (added (site_at progress.old site.now) (the_type entry) token (body_at progress.old own.entries.items) (state_of progress.old)) result progress.new }
-    ensures stands { IfOk result (λ body. Stands progress.new site.now body.entries.items) }
-    ensures mentions { OnOk result (Mentions progress.old progress.new) }
-    ensures pushed { IfOk result (λ body. body.entries.items ≡ own.entries.items ++ the_type entry ∷ []) }
+    requires new { IsTrue (is_new_type entry.id own.entries) }
+    ensures outcome { GivesBody (added (site_of site.now) (the_type entry) token own.entries (state_of progress.old)) result (state_of progress.new) }
+    ensures pushed { IfOk result (λ body. body.entries ≡ own.entries ++ the_type entry ∷ []) }
 {
     let weight = entry_weight(site.path, entry.id.as_slice(), &entry.fun.body);
     progress.weigh(weight, token)?;
@@ -50,12 +45,8 @@ pub fn add_value(
     own: Body,
     progress: &mut Progress,
 ) -> Result<Body, ElabRefusal>
-    requires stands { Stands progress.old site.now own.entries.items }
-    requires new { IsTrue (is_new_value entry.id own.entries.items) }
-    requires settled { IsSettledScheme progress.old.table entry.scheme }
-    ensures outcome { GivesBody (added (site_at progress.old site.now) (the_value entry) token (body_at progress.old own.entries.items) (state_of progress.old)) result progress.new }
-    ensures stands { IfOk result (λ body. Stands progress.new site.now body.entries.items) }
-    ensures mentions { OnOk result (Mentions progress.old progress.new) }
+    requires new { IsTrue (is_new_value entry.id own.entries) }
+    ensures outcome { GivesBody (added (site_of site.now) (the_value entry) token own.entries (state_of progress.old)) result (state_of progress.new) }
 {
     let weight = entry_weight(site.path, entry.id.as_slice(), &entry.scheme.body);
     progress.weigh(weight, token)?;
@@ -71,13 +62,9 @@ pub fn add_plain(
     own: Body,
     progress: &mut Progress,
 ) -> Result<Body, ElabRefusal>
-    requires stands { Stands progress.old site.now own.entries.items }
-    requires new { IsTrue (is_new_type (text_at (texts site.now.source) token) own.entries.items) }
-    requires settled { IsSettledType progress.old.table fun.body }
-    ensures outcome { GivesBody (added (site_at progress.old site.now) (the_type (plain_type (text_at (texts site.now.source) token) fun)) token (body_at progress.old own.entries.items) (state_of progress.old)) result progress.new }
-    ensures stands { IfOk result (λ body. Stands progress.new site.now body.entries.items) }
-    ensures mentions { OnOk result (Mentions progress.old progress.new) }
-    ensures pushed { IfOk result (λ body. body.entries.items ≡ own.entries.items ++ the_type (plain_type (text_at (texts site.now.source) token) fun) ∷ []) }
+    requires new { IsTrue (is_new_type (text_at (texts site.now.source) token) own.entries) }
+    ensures outcome { GivesBody (added (site_of site.now) (the_type (plain_type (text_at (texts site.now.source) token) fun)) token own.entries (state_of progress.old)) result (state_of progress.new) }
+    ensures pushed { IfOk result (λ body. body.entries ≡ own.entries ++ the_type (plain_type (text_at (texts site.now.source) token) fun) ∷ []) }
 {
     let id = Text::from_slice(alloc, site.source.text(token))?;
     let entry = TypeEntry {
@@ -86,6 +73,16 @@ pub fn add_plain(
         constructors: List::new(alloc),
     };
     add_type(alloc, site, entry, token, own, progress)
+}
+
+// The type as a scheme. A tree of 2^32 nodes wants more memory than there is.
+fn scheme_of(alloc: Global, t: &Ty) -> Result<Scheme, NoMemory>
+    ensures value { IfOk result (λ s. s ≡ closed t.now) }
+{
+    if size(t) > u32::MAX as u64 {
+        return Err(NoMemory);
+    }
+    close(alloc, t)
 }
 
 /// The body with a value of this type, whose identifier stands at the token and is new.
@@ -98,12 +95,8 @@ pub fn add_closed(
     own: Body,
     progress: &mut Progress,
 ) -> Result<Body, ElabRefusal>
-    requires stands { Stands progress.old site.now own.entries.items }
-    requires new { IsTrue (is_new_value (text_at (texts site.now.source) token) own.entries.items) }
-    requires settled { IsSettledType progress.old.table t.now }
-    ensures outcome { GivesBody (added (site_at progress.old site.now) (the_value (closed_value (text_at (texts site.now.source) token) kind t.now)) token (body_at progress.old own.entries.items) (state_of progress.old)) result progress.new }
-    ensures stands { IfOk result (λ body. Stands progress.new site.now body.entries.items) }
-    ensures mentions { OnOk result (Mentions progress.old progress.new) }
+    requires new { IsTrue (is_new_value (text_at (texts site.now.source) token) own.entries) }
+    ensures outcome { GivesBody (added (site_of site.now) (the_value (closed_value (text_at (texts site.now.source) token) kind t.now)) token own.entries (state_of progress.old)) result (state_of progress.new) }
 {
     let id = Text::from_slice(alloc, site.source.text(token))?;
     let scheme = scheme_of(alloc, t)?;
@@ -115,27 +108,4 @@ pub fn add_closed(
         own,
         progress,
     )
-}
-
-/// The body with a structure that has what another body describes, weighed at the token of its identifier,
-/// which is new.
-pub fn add_structure(
-    alloc: Global,
-    site: &Site<'_>,
-    inner: Body,
-    token: u32,
-    own: Body,
-    progress: &mut Progress,
-) -> Result<Body, ElabRefusal>
-    requires stands { Stands progress.old site.now own.entries.items }
-    requires new { IsTrue (is_new_structure (text_at (texts site.now.source) token) own.entries.items) }
-    requires over { AreOver progress.old.table.names inner.entries.items }
-    ensures outcome { GivesBody (added (site_at progress.old site.now) (the_structure (text_at (texts site.now.source) token) (body_at progress.old inner.entries.items)) token (body_at progress.old own.entries.items) (state_of progress.old)) result progress.new }
-    ensures stands { IfOk result (λ body. Stands progress.new site.now body.entries.items) }
-    ensures mentions { OnOk result (Mentions progress.old progress.new) }
-    ensures pushed { IfOk result (λ body. body.entries.items ≡ own.entries.items ++ the_structure (text_at (texts site.now.source) token) inner.entries.items ∷ []) }
-{
-    let id = site.source.text(token);
-    progress.weigh(weight_at(site.path.len() as u64, id), token)?;
-    Ok(own.with_structure(alloc, id, inner)?)
 }

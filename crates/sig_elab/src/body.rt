@@ -1,134 +1,152 @@
 // A body so far.
-ghost use Rattle.std.specs.Prelude.{◌≡◌, ◌++◌, ◌∷◌, [], ℕ, IfOk, IsTrue, List, None, take};
-ghost use Rattle.sig_elab.specs.Environments.{is_new_structure, is_new_type, is_new_value, structure_of, the_structure, the_type, the_value};
-ghost use Rattle.sig_elab.specs.Distinct.{AreDistinct};
-ghost use Rattle.sig_elab.specs.Indexes.{IsIndex};
-ghost use Rattle.sig_elab.specs.declared.entry.Entry.{out-Entry};
-ghost use Rattle.sig_elab.specs.Specifications.{are_new, is_new_step};
+ghost use Rattle.std.specs.Prelude.{◌≡◌, ◌++◌, ◌∷◌, [], ℕ, List, IfOk, IsTrue, slice_get, take};
+ghost use Rattle.std.specs.Option.{option_copied};
+ghost use Rattle.sig_elab.specs.Environments.{is_new_type, is_new_value, is_type, is_value, type_in, the_type, the_value, type_entry, value_entry, value_in};
+ghost use Rattle.sig_elab.specs.Finding.{place_of};
+ghost use Rattle.sig_elab.specs.Places.{place_at};
 
 use crate::entry::{Entry, TypeEntry, ValueEntry};
-use crate::index::{Index, index_entry, index_of};
-use crate::scope::Scope;
-use sig_base::{List, NoMemory, Text};
+use crate::places::Places;
+use sig_base::{List, NoMemory};
 use std::alloc::Global;
 
 /// What a body describes so far, with the places of its identifiers.
 #[derive(Drop)]
 pub struct Body {
-    pub entries: Vec<Entry>,
-    pub index: Index,
-    ghost indexed: { IsIndex index entries.items },
-    ghost distinct: { AreDistinct entries.items },
+    pub entries: List<Entry>,
+    types: Places,
+    values: Places,
+    ghost types_placed: { (id : List ℕ) → place_at types id ≡ place_of (is_type id) entries },
+    ghost values_placed: { (id : List ℕ) → place_at values id ≡ place_of (is_value id) entries },
 }
 
 impl Body {
     pub fn new(alloc: Global) -> Body
-        ensures empty { result.entries.items ≡ [] }
+        ensures empty { result.entries ≡ [] }
     {
         Body {
-            entries: Vec::new(alloc),
-            index: Index::new(alloc),
+            entries: List::new(alloc),
+            types: Places::new(alloc),
+            values: Places::new(alloc),
         }
     }
 
-    /// A body of these entries.
-    pub fn of(alloc: Global, entries: Vec<Entry>) -> Result<Body, NoMemory>
-        requires distinct { AreDistinct entries.items }
-        ensures value { IfOk result (λ body. body.entries.items ≡ entries.items) }
+    /// What it describes.
+    pub fn into_entries(self) -> List<Entry>
+        ensures value { result ≡ self.entries }
     {
-        let index = index_of(alloc, entries.as_slice())?;
-        Ok(Body { entries, index })
+        let Body {
+            entries,
+            types: _,
+            values: _,
+        } = self;
+        entries
     }
 
-    /// All of it.
-    pub fn scope(&self) -> Scope<'_>
-        ensures value { result.entries.now ≡ self.now.entries.items }
+    /// Whether no type constructor has the identifier.
+    pub fn is_new_type(&self, id: &[u8]) -> bool
+        ensures value { result ≡ is_new_type id.now self.now.entries }
     {
-        Scope {
-            entries: self.entries.as_slice(),
-            index: &self.index,
+        self.types.get(id).is_none()
+    }
+
+    /// Whether no value has the identifier.
+    pub fn is_new_value(&self, id: &[u8]) -> bool
+        ensures value { result ≡ is_new_value id.now self.now.entries }
+    {
+        self.values.get(id).is_none()
+    }
+
+    /// The type constructor of this identifier.
+    pub fn find_type(&self, id: &[u8]) -> Option<&TypeEntry>
+        ensures value { option_copied result ≡ type_in id.now self.now.entries }
+    {
+        match self.types.get(id) {
+            None => None,
+            Some(place) => type_among(self.entries.as_slice(), place),
         }
     }
 
-    /// So many of its entries.
-    pub fn scope_before(&self, count: usize) -> Scope<'_>
-        ensures value { result.entries.now ≡ take count self.now.entries.items }
+    /// The type constructor of this identifier among so many entries.
+    pub fn find_type_before(&self, id: &[u8], count: usize) -> Option<&TypeEntry>
+        ensures value { option_copied result ≡ type_in id.now (take count self.now.entries) }
     {
-        let count = count.min(self.entries.len());
-        Scope {
-            entries: &self.entries[..count],
-            index: &self.index,
+        match self.types.get(id) {
+            None => None,
+            Some(place) => {
+                if place >= count {
+                    return None;
+                }
+                type_among(self.entries.as_slice(), place)
+            }
+        }
+    }
+
+    /// The value of this identifier.
+    pub fn find_value(&self, id: &[u8]) -> Option<&ValueEntry>
+        ensures value { option_copied result ≡ value_in id.now self.now.entries }
+    {
+        match self.values.get(id) {
+            None => None,
+            Some(place) => value_among(self.entries.as_slice(), place),
         }
     }
 
     /// The body with one more type constructor, whose identifier is new.
     pub fn with_type(self, alloc: Global, entry: TypeEntry) -> Result<Body, NoMemory>
-        requires new { IsTrue (is_new_type entry.id self.entries.items) }
-        ensures pushed { IfOk result (λ body. body.entries.items ≡ self.entries.items ++ the_type entry ∷ []) }
+        requires new { IsTrue (is_new_type entry.id self.entries) }
+        ensures pushed { IfOk result (λ body. body.entries ≡ self.entries ++ the_type entry ∷ []) }
     {
-        self.with(alloc, Entry::Tycon(entry))
+        let Body {
+            mut entries,
+            mut types,
+            values,
+        } = self;
+        types.insert(alloc, entry.id.as_slice(), entries.len())?;
+        entries.push(Entry::Tycon(entry))?;
+        Ok(Body {
+            entries,
+            types,
+            values,
+        })
     }
 
     /// The body with one more value, whose identifier is new.
     pub fn with_value(self, alloc: Global, entry: ValueEntry) -> Result<Body, NoMemory>
-        requires new { IsTrue (is_new_value entry.id self.entries.items) }
-        ensures pushed { IfOk result (λ body. body.entries.items ≡ self.entries.items ++ the_value entry ∷ []) }
-    {
-        self.with(alloc, Entry::Value(entry))
-    }
-
-    /// The body with one more structure, whose identifier is new.
-    pub fn with_structure(self, alloc: Global, id: &[u8], inner: Body) -> Result<Body, NoMemory>
-        requires new { IsTrue (is_new_structure id.now self.entries.items) }
-        ensures pushed { IfOk result (λ body. body.entries.items ≡ self.entries.items ++ the_structure id.now inner.entries.items ∷ []) }
+        requires new { IsTrue (is_new_value entry.id self.entries) }
+        ensures pushed { IfOk result (λ body. body.entries ≡ self.entries ++ the_value entry ∷ []) }
     {
         let Body {
             mut entries,
-            mut index,
+            types,
+            mut values,
         } = self;
-        let Body {
-            entries: inner_entries,
-            index: inner_index,
-        } = inner;
-        index.add_structure(alloc, id, entries.len(), inner_index)?;
-        let id = Text::from_slice(alloc, id)?;
-        entries.push(Entry::Structure(id, List::from_vec(inner_entries)))?;
-        Ok(Body { entries, index })
+        values.insert(alloc, entry.id.as_slice(), entries.len())?;
+        entries.push(Entry::Value(entry))?;
+        Ok(Body {
+            entries,
+            types,
+            values,
+        })
     }
+}
 
-    /// The body with the entries of another one, all of which are new.
-    pub fn with_all(self, alloc: Global, more: Body) -> Result<Body, NoMemory>
-        requires new { IsTrue (are_new more.entries.items self.entries.items) }
-        ensures pushed { IfOk result (λ body. body.entries.items ≡ self.entries.items ++ more.entries.items) }
-    {
-        let Body {
-            mut entries,
-            mut index,
-        } = self;
-        let Body {
-            entries: mut added,
-            index: _,
-        } = more;
-        let count = entries.len();
-        for (place, entry) in added.iter().enumerate() {
-            index_entry(alloc, entry, count.saturating_add(place), &mut index)?;
-        }
-        entries.append(&mut added)?;
-        Ok(Body { entries, index })
+// The type constructor at a place.
+fn type_among(entries: &[Entry], place: usize) -> Option<&TypeEntry>
+    ensures value { option_copied result ≡ type_entry (slice_get entries.now place) }
+{
+    match entries.get(place) {
+        Some(Entry::Tycon(entry)) => Some(entry),
+        _ => None,
     }
+}
 
-    // The body with one more entry, which is no structure.
-    fn with(self, alloc: Global, entry: Entry) -> Result<Body, NoMemory>
-        requires new { IsTrue (is_new_step self.entries.items (out-Entry entry)) }
-        requires plain { (id : List ℕ) → structure_of id entry ≡ None }
-        ensures pushed { IfOk result (λ body. body.entries.items ≡ self.entries.items ++ entry ∷ []) }
-    {
-        let Body {
-            mut entries,
-            mut index,
-        } = self;
-        index_entry(alloc, &entry, entries.len(), &mut index)?;
-        entries.push(entry)?;
-        Ok(Body { entries, index })
+// The value at a place.
+fn value_among(entries: &[Entry], place: usize) -> Option<&ValueEntry>
+    ensures value { option_copied result ≡ value_entry (slice_get entries.now place) }
+{
+    match entries.get(place) {
+        Some(Entry::Value(entry)) => Some(entry),
+        _ => None,
     }
 }

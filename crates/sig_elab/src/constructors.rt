@@ -1,12 +1,11 @@
 // Constructors of datatypes and of exceptions.
-ghost use Rattle.std.specs.Prelude.{◌≡◌, IfOk, OnOk};
+ghost use Rattle.std.specs.Prelude.{◌≡◌, IfOk};
 ghost use Rattle.sig_elab.specs.Bodies.{in_turn};
 ghost use Rattle.sig_elab.specs.Constructors as spec;
 ghost use Rattle.sig_elab.specs.Constructors.{constructor_described, constructor_type, constructors_described};
 ghost use Rattle.sig_elab.specs.Exceptions.{exceptions_described};
 ghost use Rattle.sig_elab.specs.Outcome.{GivesWith};
-ghost use Rattle.sig_elab.specs.Standing.{Stands, IsSettledType, Mentions, Sees};
-ghost use Rattle.sig_elab.specs.Views.{GivesBody, body_at, family_of, site_at, state_of};
+ghost use Rattle.sig_elab.specs.Views.{GivesBody, family_of, site_of, state_of};
 
 use crate::adding::add_closed;
 use crate::body::Body;
@@ -16,6 +15,7 @@ use crate::limits::{is_low, is_normal_small, is_small};
 use crate::place::Place;
 use crate::progress::Progress;
 use crate::refusal::{ElabRefusal, Why};
+use crate::scope::Scope;
 use crate::site::Site;
 use crate::typing::type_of;
 use crate::variables::Variables;
@@ -36,23 +36,18 @@ fn type_of_constructor(
     own: &Body,
     progress: &mut Progress,
 ) -> Result<Ty, ElabRefusal>
-    requires sees { Sees progress.old site.now own.now.entries.items }
-    requires made { IsSettledType progress.old.table family.now.made.now }
-    ensures outcome { GivesWith (constructor_type argument.now (family_of family.now) (site_at progress.old site.now) (body_at progress.old own.now.entries.items) (state_of progress.old)) result (state_of progress.new) }
-    ensures settled { IfOk result (IsSettledType progress.new.table) }
-    ensures sees { OnOk result (Sees progress.new site.now own.now.entries.items) }
-    ensures mentions { OnOk result (Mentions progress.old progress.new) }
+    ensures outcome { GivesWith (constructor_type argument.now (family_of family.now) (site_of site.now) own.now.entries (state_of progress.old)) result (state_of progress.new) }
 {
     let made = copy(alloc, family.made)?;
     match argument {
         None => Ok(made),
         Some(argument) => {
-            let seen = own.scope();
             let place = Place {
-                site: *site,
+                source: site.source,
                 first: argument.first,
                 variables: family.variables,
-                own: seen,
+                own: Scope::All(own),
+                initial: site.initial,
             };
             let from = type_of(alloc, &argument.ty, &place, progress)?;
             let whole = Ty::Arrow(Boxed::new(alloc, from)?, Boxed::new(alloc, made)?);
@@ -79,13 +74,9 @@ fn describe_constructor(
     own: Body,
     progress: &mut Progress,
 ) -> Result<Body, ElabRefusal>
-    requires stands { Stands progress.old site.now own.entries.items }
-    requires made { IsSettledType progress.old.table family.now.made.now }
-    ensures outcome { GivesBody (constructor_described constructor.now (family_of family.now) (site_at progress.old site.now) (body_at progress.old own.entries.items) (state_of progress.old)) result progress.new }
-    ensures stands { IfOk result (λ body. Stands progress.new site.now body.entries.items) }
-    ensures mentions { OnOk result (Mentions progress.old progress.new) }
+    ensures outcome { GivesBody (constructor_described constructor.now (family_of family.now) (site_of site.now) own.entries (state_of progress.old)) result (state_of progress.new) }
 {
-    if !own.scope().is_new_value(site.source.text(constructor.id)) {
+    if !own.is_new_value(site.source.text(constructor.id)) {
         return Err(ElabRefusal::Refused(Why::Duplicate, constructor.id));
     }
     let t = type_of_constructor(alloc, site, &constructor.arg, family, &own, progress)?;
@@ -101,11 +92,7 @@ pub fn describe_constructors(
     own: Body,
     progress: &mut Progress,
 ) -> Result<Body, ElabRefusal>
-    requires stands { Stands progress.old site.now own.entries.items }
-    requires made { IsSettledType progress.old.table family.now.made.now }
-    ensures outcome { GivesBody (constructors_described constructors.now (family_of family.now) (site_at progress.old site.now) (body_at progress.old own.entries.items) (state_of progress.old)) result progress.new }
-    ensures stands { IfOk result (λ body. Stands progress.new site.now body.entries.items) }
-    ensures mentions { OnOk result (Mentions progress.old progress.new) }
+    ensures outcome { GivesBody (constructors_described constructors.now (family_of family.now) (site_of site.now) own.entries (state_of progress.old)) result (state_of progress.new) }
 {
     let mut body = own;
     for constructor in constructors {
@@ -122,12 +109,8 @@ pub fn describe_exceptions(
     own: Body,
     progress: &mut Progress,
 ) -> Result<Body, ElabRefusal>
-    requires stands { Stands progress.old site.now own.entries.items }
-    ensures outcome { GivesBody (exceptions_described constructors.now (site_at progress.old site.now) (body_at progress.old own.entries.items) (state_of progress.old)) result progress.new }
-    ensures stands { IfOk result (λ body. Stands progress.new site.now body.entries.items) }
-    ensures mentions { OnOk result (Mentions progress.old progress.new) }
+    ensures outcome { GivesBody (exceptions_described constructors.now (site_of site.now) own.entries (state_of progress.old)) result (state_of progress.new) }
 {
-    progress.table.is_sound();
     let made = constant(alloc, EXN);
     let family = Family {
         kind: Kind::Exn,

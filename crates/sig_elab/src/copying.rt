@@ -26,8 +26,7 @@ pub fn copy_scheme(alloc: Global, scheme: &Scheme) -> Result<Scheme, NoMemory>
     })
 }
 
-/// Copies of texts.
-pub fn copy_texts(alloc: Global, texts: &[Text]) -> Result<List<Text>, NoMemory>
+fn copy_texts(alloc: Global, texts: &[Text]) -> Result<List<Text>, NoMemory>
     ensures value { IfOk result (λ copies. copies ≡ texts.now) }
 {
     let mut copies = List::new(alloc);

@@ -1,11 +1,10 @@
 // Datatype specifications.
-ghost use Rattle.std.specs.Prelude.{◌≡◌, ◌+◌, IfOk, OnOk, length};
+ghost use Rattle.std.specs.Prelude.{◌≡◌, ◌+◌, IfOk};
 ghost use Rattle.sig_elab.specs.Constructors.{constructors_described};
 ghost use Rattle.sig_elab.specs.Datatypes.{datatype_entry, datatype_family, datatype_head, datatype_heads, datatypes_described, group_constructed, identifiers};
-ghost use Rattle.sig_elab.specs.Parameters.{marked as spec_marked, variables_at as spec_variables};
+ghost use Rattle.sig_elab.specs.Parameters.{variables_at as spec_variables};
 ghost use Rattle.sig_elab.specs.Sources.{text_at};
-ghost use Rattle.sig_elab.specs.Standing.{Stands, AreMade, IsSettledType, Mentions};
-ghost use Rattle.sig_elab.specs.Views.{GivesBody, body_at, site_at, state_of, texts};
+ghost use Rattle.sig_elab.specs.Views.{GivesBody, site_of, state_of, texts};
 
 use crate::adding::add_type;
 use crate::body::Body;
@@ -70,17 +69,11 @@ fn describe_head(
     own: Body,
     progress: &mut Progress,
 ) -> Result<Body, ElabRefusal>
-    requires stands { Stands progress.old site.now own.entries.items }
-    ensures outcome { GivesBody (datatype_head desc.now (site_at progress.old site.now) (body_at progress.old own.entries.items) (state_of progress.old)) result progress.new }
-    ensures stands { IfOk result (λ body. Stands progress.new site.now body.entries.items) }
-    ensures mentions { OnOk result (Mentions progress.old progress.new) }
-    ensures made { OnOk result (IsSettledType progress.new.table (spec_marked (length progress.old.table.names) (spec_variables (texts site.now.source) desc.now.params))) }
-    ensures one { OnOk result (length progress.new.table.names ≡ length progress.old.table.names + 1) }
+    ensures outcome { GivesBody (datatype_head desc.now (site_of site.now) own.entries (state_of progress.old)) result (state_of progress.new) }
 {
-    progress.table.is_sound();
     check_parameters(alloc, &site.source, desc.params.as_slice())?;
     let text = site.source.text(desc.id);
-    if !own.scope().is_new_type(text) {
+    if !own.is_new_type(text) {
         return Err(ElabRefusal::Refused(Why::Duplicate, desc.id));
     }
     if desc.params.len() as u64 >= MAX_NODES {
@@ -100,11 +93,7 @@ fn describe_heads(
     own: Body,
     progress: &mut Progress,
 ) -> Result<Body, ElabRefusal>
-    requires stands { Stands progress.old site.now own.entries.items }
-    ensures outcome { GivesBody (datatype_heads descs.now (site_at progress.old site.now) (body_at progress.old own.entries.items) (state_of progress.old)) result progress.new }
-    ensures stands { IfOk result (λ body. Stands progress.new site.now body.entries.items) }
-    ensures mentions { OnOk result (Mentions progress.old progress.new) }
-    ensures made { OnOk result (AreMade progress.new.table (length progress.old.table.names) (texts site.now.source) descs.now) }
+    ensures outcome { GivesBody (datatype_heads descs.now (site_of site.now) own.entries (state_of progress.old)) result (state_of progress.new) }
 {
     let mut body = own;
     for desc in descs {
@@ -122,11 +111,7 @@ fn construct(
     own: Body,
     progress: &mut Progress,
 ) -> Result<Body, ElabRefusal>
-    requires stands { Stands progress.old site.now own.entries.items }
-    requires made { IsSettledType progress.old.table (spec_marked name (spec_variables (texts site.now.source) desc.now.params)) }
-    ensures outcome { GivesBody (constructors_described desc.now.cons (datatype_family name (spec_variables (texts site.now.source) desc.now.params)) (site_at progress.old site.now) (body_at progress.old own.entries.items) (state_of progress.old)) result progress.new }
-    ensures stands { IfOk result (λ body. Stands progress.new site.now body.entries.items) }
-    ensures mentions { OnOk result (Mentions progress.old progress.new) }
+    ensures outcome { GivesBody (constructors_described desc.now.cons (datatype_family name (spec_variables (texts site.now.source) desc.now.params)) (site_of site.now) own.entries (state_of progress.old)) result (state_of progress.new) }
 {
     let parameters = variables_at(alloc, &site.source, desc.params.as_slice())?;
     let made = marked(alloc, NameId(name), parameters.as_slice())?;
@@ -157,11 +142,7 @@ fn construct_group(
     own: Body,
     progress: &mut Progress,
 ) -> Result<Body, ElabRefusal>
-    requires stands { Stands progress.old site.now own.entries.items }
-    requires made { AreMade progress.old.table first (texts site.now.source) descs.now }
-    ensures outcome { GivesBody (group_constructed descs.now first (site_at progress.old site.now) (body_at progress.old own.entries.items) (state_of progress.old)) result progress.new }
-    ensures stands { IfOk result (λ body. Stands progress.new site.now body.entries.items) }
-    ensures mentions { OnOk result (Mentions progress.old progress.new) }
+    ensures outcome { GivesBody (group_constructed descs.now first (site_of site.now) own.entries (state_of progress.old)) result (state_of progress.new) }
 {
     let mut body = own;
     let mut name = first;
@@ -181,10 +162,7 @@ pub fn describe_datatypes(
     own: Body,
     progress: &mut Progress,
 ) -> Result<Body, ElabRefusal>
-    requires stands { Stands progress.old site.now own.entries.items }
-    ensures outcome { GivesBody (datatypes_described descs.now (site_at progress.old site.now) (body_at progress.old own.entries.items) (state_of progress.old)) result progress.new }
-    ensures stands { IfOk result (λ body. Stands progress.new site.now body.entries.items) }
-    ensures mentions { OnOk result (Mentions progress.old progress.new) }
+    ensures outcome { GivesBody (datatypes_described descs.now (site_of site.now) own.entries (state_of progress.old)) result (state_of progress.new) }
 {
     let from = own.entries.len();
     let first = progress.table.len();

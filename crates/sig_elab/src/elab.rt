@@ -8,22 +8,21 @@ ghost use Rattle.sig_elab.specs.Elaborators.{GivesBasis, basis_of};
 ghost use Rattle.sig_elab.specs.Files.{elaborated};
 ghost use Rattle.sig_elab.specs.Library.{empty_basis, library};
 ghost use Rattle.sig_elab.specs.Outcome.{Agrees};
+ghost use Rattle.sig_elab.specs.Soundness.{IsSound};
 ghost use Rattle.sig_elab.specs.Sources.{AreWithin, texts_of};
+ghost use Rattle.sig_elab.specs.Totals.{AreTotals};
 
 use crate::declarations::declare_all;
 use crate::draft::Draft;
-use crate::index::index_of;
 use crate::initial::initial_environment;
-use crate::keeping::{all_names, numbers_kept};
-use crate::listing::{all_members, all_tycons, all_units};
+use crate::listing::{all_members, all_names, all_tycons, all_units};
 use crate::progress::Progress;
 use crate::refusal::ElabRefusal;
-use crate::renumbering::{Numbering, units_renumbered};
-use crate::scope::Scope;
 use crate::source::Source;
 use crate::texts::first_tokens;
 use crate::totals::Totals;
 use crate::units::Units;
+use elab_env::NameTable;
 use sig_base::NoMemory;
 use sig_parser::SourceFile;
 use sml_lexer::{Token, spans_inside};
@@ -51,12 +50,13 @@ impl Model for Elab {
 
     ghost coded = { Prim.hlevel (codes, types.the_row.coded, entries.the_row.coded) };
 
-    ghost use Rattle.sig_elab.specs.Kept.{IsSound};
+    ghost use Rattle.sig_elab.specs.Soundness.{IsSound};
+    ghost use Rattle.sig_elab.specs.Totals.{AreTotals};
     ghost use Rattle.sig_elab.specs.Views.{state_of};
 
     ghost view = { λ e. record { units = e.units.entries.items; state = state_of e.progress } };
 
-    ghost invariant = { λ e. IsSound e.units e.progress e.totals };
+    ghost invariant = { λ e. AreTotals e.totals (record { units = e.units.entries.items; state = state_of e.progress }) × IsSound (record { units = e.units.entries.items; state = state_of e.progress }) };
 }
 
 // Tokens of a text stand within it.
@@ -70,21 +70,24 @@ fn tokens_within(bytes: &[u8], tokens: &[Token])
 }
 
 // How far a file comes.
-fn elaborate_file<'a>(
+fn elaborate_file(
     alloc: Global,
     file: &SourceFile,
     tokens: &[Token],
     bytes: &[u8],
-    draft: Draft<'a>,
-) -> Result<Draft<'a>, ElabRefusal>
+    before: &Units,
+    draft: Draft,
+) -> Result<Draft, ElabRefusal>
     requires tokens { tokens_of bytes.now tokens.now }
     requires phrase { File (sorts_of bytes.now tokens.now) file.now }
-    ensures outcome { GivesBasis (elaborated (texts_of bytes.now tokens.now) file.now (basis_of draft.entry)) result }
+    requires counted { AreTotals draft.totals (basis_of before.now draft) }
+    requires sound { IsSound (basis_of before.now draft) }
+    ensures outcome { GivesBasis before.now (elaborated (texts_of bytes.now tokens.now) file.now (basis_of before.now draft)) result }
+    ensures sound { IfOk result (λ after. IsSound (basis_of before.now after)) }
 {
     tokens_within(bytes, tokens);
     let firsts = first_tokens(alloc, bytes, tokens)?;
     let initial = initial_environment(alloc)?;
-    let index = index_of(alloc, initial.as_slice())?;
     let source = Source {
         bytes,
         tokens,
@@ -93,11 +96,9 @@ fn elaborate_file<'a>(
     declare_all(
         alloc,
         &source,
-        Scope {
-            entries: initial.as_slice(),
-            index: &index,
-        },
+        initial.as_slice(),
         file.decs.as_slice(),
+        before,
         draft,
     )
 }
@@ -110,7 +111,10 @@ impl Elab {
         Ok(Elab {
             alloc,
             units: Units::new(alloc),
-            progress: Progress::new(alloc)?,
+            progress: Progress {
+                table: NameTable::new(alloc)?,
+                weight: 0,
+            },
             totals: Totals::none(),
         })
     }
@@ -130,21 +134,39 @@ impl Elab {
         ensures kept { OnErr result (self.new ≡ self.old) }
     {
         let draft = Draft {
-            before: &self.units,
             added: Units::new(self.alloc),
             progress: self.progress.copy(self.alloc)?,
             totals: self.totals,
         };
         let Draft {
-            before: _,
             added,
             progress,
             totals,
-        } = elaborate_file(self.alloc, file, tokens, bytes, draft)?;
+        } = elaborate_file(self.alloc, file, tokens, bytes, &self.units, draft)?;
         self.units.append(self.alloc, added)?;
         self.progress = progress;
         self.totals = totals;
         Ok(())
+    }
+
+    // What holds of every elaborator.
+    fn is_sound(&self)
+        ensures sound { IsSound self.now }
+    {
+        let _ = &self.units;
+    }
+
+    // What the units have, as a library.
+    fn listed(&self, alloc: Global) -> Result<Library, NoMemory>
+        ensures library { IfOk result (λ l. l ≡ library self.now) }
+    {
+        let units = self.units.entries.as_slice();
+        Ok(Library {
+            units: all_units(alloc, units)?,
+            names: all_names(alloc, &self.progress.table)?,
+            tycons: all_tycons(alloc, units)?,
+            members: all_members(alloc, units)?,
+        })
     }
 
     /// The library of the files that were added, in their order. It is valid.
@@ -152,15 +174,8 @@ impl Elab {
         ensures library { IfOk result (λ l. l ≡ library self.now) }
         ensures valid { IfOk result (λ l. IsValidLibrary l) }
     {
-        let numbers = numbers_kept(alloc, &self.progress.table)?;
-        let numbering = Numbering::Kept(numbers.as_slice());
-        let units = units_renumbered(alloc, self.units.entries.as_slice(), &numbering)?;
-        let units = units.as_slice();
-        Ok(Library {
-            units: all_units(alloc, units)?,
-            names: all_names(alloc, &self.progress.table)?,
-            tycons: all_tycons(alloc, units)?,
-            members: all_members(alloc, units)?,
-        })
+        self.is_sound();
+        let library = self.listed(alloc)?;
+        Ok(library)
     }
 }

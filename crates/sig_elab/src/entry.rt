@@ -34,7 +34,4 @@ pub struct UnitEntry {
     pub kind: UnitKind,
     pub id: Text,
     pub entries: List<Entry>,
-    /// The number of the first name that was made while it was elaborated, and how many were.
-    pub first_name: u32,
-    pub name_count: u32,
 }

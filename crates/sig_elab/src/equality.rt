@@ -3,7 +3,6 @@ ghost use Rattle.std.specs.Prelude.{◌≡◌, ◌+◌, ◌-◌, ◌<◌, ◌≤
 ghost use Rattle.elab_env.specs.Names.{equality_at, with_equality};
 ghost use Rattle.sig_elab.specs.Datatypes.{settled};
 ghost use Rattle.sig_elab.specs.Equality.{admits, all_fit, entry_fits, field_admits, with_choice, with_greatest};
-ghost use Rattle.sig_elab.specs.Standing.{Mentions};
 ghost use Rattle.sig_elab.specs.Settling.{IsBound, IsMisfit, live_count};
 ghost use Rattle.sig_elab.specs.Views.{state_of};
 ghost use Rattle.sig_elab.specs.declared.entry.Entry.{out-Entry};
@@ -18,7 +17,7 @@ use sig_base::NoMemory;
 use type_core::{Equality, Field, NameId, Ty};
 
 // The equality of a name; `Never` where there is no such name.
-pub fn equality(table: &NameTable, name: NameId) -> Equality
+fn equality(table: &NameTable, name: NameId) -> Equality
     ensures value { result ≡ equality_at table.now.names name.0 }
 {
     if name.0 < table.len() {
@@ -30,7 +29,7 @@ pub fn equality(table: &NameTable, name: NameId) -> Equality
 
 // Whether the type admits equality where all its variables do.
 #[cycle(admits)]
-pub fn admits(t: &Ty, table: &NameTable) -> bool
+fn admits(t: &Ty, table: &NameTable) -> bool
     ensures value { result ≡ admits table.now.names t.now }
 {
     match t {
@@ -94,7 +93,6 @@ fn misfit(entry: &Entry, table: &NameTable) -> Option<NameId>
 // Settles when applications of a name admit equality. Each name of a group that is being described is free.
 fn settle(table: &mut NameTable, name: NameId, equality: Equality) -> Result<(), NoMemory>
     ensures names { OnOk result (table.new.names ≡ with_equality name.0 equality table.old.names) }
-    ensures realizations { OnOk result (table.new.realizations ≡ table.old.realizations) }
 {
     if !table.is_free(name) {
         return Err(NoMemory);
@@ -106,7 +104,6 @@ fn settle(table: &mut NameTable, name: NameId, equality: Equality) -> Result<(),
 // Lets all names of a group admit equality as their arguments do.
 fn choose_all(table: &mut NameTable, first: u32, end: u32) -> Result<(), NoMemory>
     ensures names { OnOk result (table.new.names ≡ with_choice first (replicate (end - first) true) table.old.names) }
-    ensures realizations { OnOk result (table.new.realizations ≡ table.old.realizations) }
 {
     for name in first..end {
         settle(table, NameId(name), Equality::IfArgs)?;
@@ -117,7 +114,6 @@ fn choose_all(table: &mut NameTable, first: u32, end: u32) -> Result<(), NoMemor
 // Denies equality to a name of a group.
 fn deny(table: &mut NameTable, name: NameId, first: u32, end: u32) -> Result<(), NoMemory>
     ensures names { OnOk result (table.new.names ≡ with_equality name.0 Never table.old.names) }
-    ensures realizations { OnOk result (table.new.realizations ≡ table.old.realizations) }
     ensures grouped { OnOk result ((first ≤ name.0) × (name.0 < end)) }
 {
     if name.0 < first || end <= name.0 {
@@ -134,7 +130,6 @@ fn deny_misfits(
     entries: &[Entry],
 ) -> Result<bool, NoMemory>
     ensures bound { OnOk result ((names : List TypeName) → IsBound first (end - first) entries.now names table.old.names → IsBound first (end - first) entries.now names table.new.names) }
-    ensures realizations { OnOk result (table.new.realizations ≡ table.old.realizations) }
     ensures fit { IfOk result (λ changed. changed ≡ false → all_fit table.new.names entries.now ≡ true) }
     ensures fewer { IfOk result (λ changed. changed ≡ true → live_count table.new.names < live_count table.old.names) }
 {
@@ -159,7 +154,6 @@ fn settle_names(
     entries: &[Entry],
 ) -> Result<(), NoMemory>
     ensures names { OnOk result (table.new.names ≡ with_greatest first (end - first) entries.now table.old.names) }
-    ensures realizations { OnOk result (table.new.realizations ≡ table.old.realizations) }
     ensures fit { OnOk result (all_fit table.new.names entries.now ≡ true) }
 {
     choose_all(table, first, end)?;
@@ -206,7 +200,6 @@ pub fn settle_equality(
     from: usize,
 ) -> Result<(), NoMemory>
     ensures settled { OnOk result (state_of progress.new ≡ settled first count (drop from entries.now) (state_of progress.old)) }
-    ensures mentions { OnOk result (Mentions progress.old progress.new) }
     ensures fit { OnOk result (all_fit (state_of progress.new).names (drop from entries.now) ≡ true) }
 {
     let end = end_of(first, count)?;

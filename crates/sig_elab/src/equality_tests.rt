@@ -2,6 +2,7 @@
 use crate::entry::{Entry, ValueEntry};
 use crate::equality::settle_equality;
 use crate::progress::Progress;
+use elab_env::NameTable;
 use sig_base::{Boxed, List, NoMemory, Text};
 use std::alloc::Global;
 use std::test::Fail;
@@ -68,11 +69,14 @@ fn constant(alloc: Global, name: u32) -> Result<Entry, NoMemory> {
 
 /// So many names that a file describes.
 fn described(alloc: Global, count: u32) -> Result<Progress, NoMemory> {
-    let mut progress = Progress::new(alloc)?;
+    let mut table = NameTable::new(alloc)?;
     for _n in 0..count {
-        let _ = progress.describe(alloc, b"s", b"t", 0, Equality::IfArgs)?;
+        if table.len() > 1000 {
+            return Err(NoMemory);
+        }
+        let _ = table.describe(Text::from_slice(alloc, b"t")?, 0, Equality::IfArgs)?;
     }
-    Ok(progress)
+    Ok(Progress { table, weight: 0 })
 }
 
 /// Whether the names from `FIRST` on, settled by these constructors, admit equality exactly where it says so.

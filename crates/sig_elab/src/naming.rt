@@ -1,6 +1,5 @@
 // New names.
 ghost use Rattle.std.specs.Prelude.{◌≡◌, IfOk, OnOk, length};
-ghost use Rattle.sig_elab.specs.Standing.{Mentions};
 ghost use Rattle.sig_elab.specs.States.{with_name, within};
 ghost use Rattle.sig_elab.specs.Views.{state_of};
 
@@ -31,7 +30,6 @@ impl Progress {
     ) -> Result<NameId, NoMemory>
         ensures number { IfOk result (λ n. n.0 ≡ length (state_of self.old).names) }
         ensures described { OnOk result (state_of self.new ≡ with_name (within path.now id.now) arity equality (state_of self.old)) }
-        ensures mentions { OnOk result (Mentions self.old self.new) }
     {
         if self.table.len() == u32::MAX {
             return Err(NoMemory);

@@ -1,14 +1,20 @@
 // Where a type expression stands.
+ghost use Rattle.std.specs.Prelude.{◌≡◌};
+ghost use Rattle.sig_elab.specs.InitialEnvironment.{initial_environment};
+
+use crate::entry::Entry;
 use crate::scope::Scope;
-use crate::site::Site;
+use crate::source::Source;
 use crate::variables::Variables;
 
-/// Where a type expression stands: the site and the body so far, the first token of the whole expression, and
-/// the variables that may stand in it.
+/// Where a type expression stands: the file, the first token of the whole expression, the variables that
+/// may stand in it, the body so far, and the initial environment.
 #[derive(Clone, Copy)]
-pub struct Place<'a, 'b> {
-    pub site: Site<'a>,
-    pub own: Scope<'b>,
+pub struct Place<'a> {
+    pub source: Source<'a>,
     pub first: u32,
-    pub variables: Variables<'b>,
+    pub variables: Variables<'a>,
+    pub own: Scope<'a>,
+    pub initial: &'a [Entry],
+    ghost is_initial: { initial.now ≡ initial_environment },
 }

@@ -1,6 +1,5 @@
 // Places by texts.
 ghost use Rattle.std.specs.Prelude.{◌≡◌, ℕ, List, Some, None, OnOk, OnErr, bytes_eq, if◌then◌else◌, is_some};
-ghost use Rattle.std.specs.Option.{option_or};
 ghost use Rattle.sig_elab.specs.Places.{place_at};
 
 use sig_base::NoMemory;
@@ -47,16 +46,5 @@ impl Places {
         let text = Vec::from_slice(alloc, text)?;
         self.places.insert(text, place)?;
         Ok(())
-    }
-
-    /// Gives a text a place, where it has none.
-    pub fn insert_new(&mut self, alloc: Global, text: &[u8], place: usize) -> Result<(), NoMemory>
-        ensures inserted { OnOk result ((other : List ℕ) → place_at self.new other ≡ option_or (place_at self.old other) (if bytes_eq other text.now then Some place else None)) }
-        ensures kept { OnErr result ((other : List ℕ) → place_at self.new other ≡ place_at self.old other) }
-    {
-        if self.has(text) {
-            return Ok(());
-        }
-        self.insert(alloc, text, place)
     }
 }

@@ -36,6 +36,8 @@ pub enum Why {
     TooManyMembers,
     /// The library, or all that was described, is too heavy.
     LibraryTooLarge,
+    /// The form isn't elaborated yet.
+    NotBuilt,
 }
 
 /// Why a file has no elaboration: the first condition that failed and the number of its token, or want of

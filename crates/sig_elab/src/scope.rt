@@ -1,13 +1,11 @@
-// What is seen of an environment.
-ghost use Rattle.sig_elab.specs.Indexes.{IsSeen};
+// The part of a body that a type expression sees.
+use crate::body::Body;
 
-use crate::entry::Entry;
-use crate::index::Index;
-
-/// What is seen of an environment: its first entries, and where the identifiers of all of them stand.
+/// What a type expression sees of a body.
 #[derive(Clone, Copy)]
-pub struct Scope<'a> {
-    pub entries: &'a [Entry],
-    pub index: &'a Index,
-    ghost seen: { IsSeen index.now entries.now },
+pub enum Scope<'a> {
+    /// All of it.
+    All(&'a Body),
+    /// So many of its entries, which stand before the group that is being described.
+    Before(&'a Body, usize),
 }

@@ -1,10 +1,11 @@
 // What files describe and why they are refused, as tables.
 use crate::{Elab, ElabRefusal, Why};
-use sig_base::NoMemory;
+use sig_base::{NoMemory, Text};
 use sig_parser::parse_file;
 use sml_lexer::lex;
 use std::alloc::Global;
 use std::test::Fail;
+use type_core::Equality;
 
 // Adds a file of this text, which has tokens and a tree.
 fn add(alloc: Global, elab: &mut Elab, text: &str) -> Result<(), ElabRefusal> {
@@ -120,22 +121,8 @@ fn files_are_refused(rt: HostRuntime) -> Result<(), Fail> {
             8,
         ),
         ("signature A = sig val x : list end", Why::WrongArity, 7),
-        ("signature A = B", Why::UnboundSignature, 3),
-        (
-            "signature A = sig type t sharing type t = u end",
-            Why::Unbound,
-            10,
-        ),
-        (
-            "signature A = sig type t = int end where type t = int",
-            Why::NotFlexible,
-            9,
-        ),
-        (
-            "signature A = sig val x : B.t end signature B = sig end",
-            Why::LateUnit,
-            10,
-        ),
+        ("signature A = B", Why::NotBuilt, 3),
+        ("structure A : sig end", Why::NotBuilt, 1),
     ];
     for (text, why, token) in rows {
         assert_eq!(rt;
@@ -144,5 +131,36 @@ fn files_are_refused(rt: HostRuntime) -> Result<(), Fail> {
             "{text}"
         );
     }
+    Ok(())
+}
+
+// The paths of the names that a file of this text describes, with `=` after those that admit equality as their
+// arguments do.
+fn described_names(alloc: Global, text: &str) -> Result<Text, NoMemory> {
+    let mut elab = Elab::new(alloc)?;
+    let _ = add(alloc, &mut elab, text);
+    let library = elab.finish(alloc)?;
+    let mut paths = Text::new(alloc);
+    for (n, name) in library.names.as_slice().iter().enumerate() {
+        if n < 14 {
+            continue;
+        }
+        paths.extend(name.path.as_slice())?;
+        if name.equality == Equality::IfArgs {
+            paths.push(b'=')?;
+        }
+        paths.push(b' ')?;
+    }
+    Ok(paths)
+}
+
+#[test]
+fn equality_is_settled(rt: HostRuntime) -> Result<(), Fail> {
+    let text = "signature E = sig
+datatype t = T of u and u = U of int -> int
+datatype v = V of w | N and w = W of v * string
+end";
+    let names = described_names(rt.alloc(), text)?;
+    assert_eq!(rt; names.as_slice(), b"E.t E.u E.v= E.w= ".as_slice());
     Ok(())
 }

@@ -30,6 +30,18 @@ fn is_equality_variable(text: &[u8]) -> bool
     matches!(text, [b'\'', b'\'', ..])
 }
 
+/// Whether the text is that of a long identifier.
+pub fn is_qualified(text: &[u8]) -> bool
+    ensures value { result ≡ spec.is_qualified text.now }
+{
+    for b in text {
+        if *b == b'.' {
+            return true;
+        }
+    }
+    false
+}
+
 impl Source<'_> {
     /// The text of the token of this number; nothing past the end.
     pub fn text(&self, token: u32) -> &[u8]

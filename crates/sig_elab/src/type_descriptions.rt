@@ -1,13 +1,12 @@
 // The specifications `type` and `eqtype`.
-ghost use Rattle.std.specs.Prelude.{◌≡◌, ◌++◌, ◌∷◌, [], IfOk, take, OnOk};
+ghost use Rattle.std.specs.Prelude.{◌≡◌, ◌++◌, ◌∷◌, [], IfOk, take};
 ghost use Rattle.sig_elab.specs.declared.entry.Entry.{Entry as AnEntry};
 ghost use Rattle.sig_elab.specs.Bodies.{in_turn};
 ghost use Rattle.sig_elab.specs.Outcome.{GivesWith};
 ghost use Rattle.sig_elab.specs.Sources.{text_at};
 ghost use Rattle.sig_elab.specs.TypeDescriptions as spec;
 ghost use Rattle.sig_elab.specs.TypeDescriptions.{type_described, types_described};
-ghost use Rattle.sig_elab.specs.Standing.{Stands, IsSettledType, Mentions, Sees};
-ghost use Rattle.sig_elab.specs.Views.{GivesBody, body_at, site_at, state_of, texts};
+ghost use Rattle.sig_elab.specs.Views.{GivesBody, site_of, state_of, texts};
 
 use crate::adding::add_plain;
 use crate::body::Body;
@@ -16,6 +15,7 @@ use crate::parameters::{check_parameters, variables_at};
 use crate::place::Place;
 use crate::progress::Progress;
 use crate::refusal::{ElabRefusal, Why};
+use crate::scope::Scope;
 use crate::site::Site;
 use crate::typing::type_of;
 use crate::variables::Variables;
@@ -37,13 +37,8 @@ fn right_side(
     before: usize,
     progress: &mut Progress,
 ) -> Result<TypeFn, ElabRefusal>
-    requires sees { Sees progress.old site.now own.now.entries.items }
-    ensures outcome { GivesWith (spec.right_side right.now id.now equality parameters.now (site_at progress.old site.now) (body_at progress.old (take before own.now.entries.items)) (state_of progress.old)) result (state_of progress.new) }
-    ensures settled { IfOk result (λ f. IsSettledType progress.new.table f.body) }
-    ensures sees { OnOk result (Sees progress.new site.now own.now.entries.items) }
-    ensures mentions { OnOk result (Mentions progress.old progress.new) }
+    ensures outcome { GivesWith (spec.right_side right.now id.now equality parameters.now (site_of site.now) (take before own.now.entries) (state_of progress.old)) result (state_of progress.new) }
 {
-    progress.table.is_sound();
     let Ok(arity) = u32::try_from(parameters.len()) else {
         return Err(ElabRefusal::NoMemory);
     };
@@ -53,12 +48,12 @@ fn right_side(
             Ok(name_function(alloc, name, arity)?)
         }
         Some(right) => {
-            let seen = own.scope_before(before);
             let place = Place {
-                site: *site,
+                source: site.source,
                 first: right.first,
                 variables: Variables::Parameters(false, parameters),
-                own: seen,
+                own: Scope::Before(own, before),
+                initial: site.initial,
             };
             let body = type_of(alloc, &right.ty, &place, progress)?;
             Ok(TypeFn { arity, body })
@@ -76,15 +71,12 @@ fn describe_type(
     own: Body,
     progress: &mut Progress,
 ) -> Result<Body, ElabRefusal>
-    requires stands { Stands progress.old site.now own.entries.items }
-    ensures outcome { GivesBody (type_described equality desc.now (body_at progress.old (take before own.entries.items)) (site_at progress.old site.now) (body_at progress.old own.entries.items) (state_of progress.old)) result progress.new }
-    ensures stands { IfOk result (λ body. Stands progress.new site.now body.entries.items) }
-    ensures mentions { OnOk result (Mentions progress.old progress.new) }
-    ensures grown { IfOk result (λ body. (entry : AnEntry) × (body.entries.items ≡ own.entries.items ++ entry ∷ [])) }
+    ensures outcome { GivesBody (type_described equality desc.now (take before own.entries) (site_of site.now) own.entries (state_of progress.old)) result (state_of progress.new) }
+    ensures grown { IfOk result (λ body. (entry : AnEntry) × (body.entries ≡ own.entries ++ entry ∷ [])) }
 {
     check_parameters(alloc, &site.source, desc.params.as_slice())?;
     let text = site.source.text(desc.id);
-    if !own.scope().is_new_type(text) {
+    if !own.is_new_type(text) {
         return Err(ElabRefusal::Refused(Why::Duplicate, desc.id));
     }
     if desc.params.len() as u64 >= MAX_NODES {
@@ -114,10 +106,7 @@ pub fn describe_types(
     own: Body,
     progress: &mut Progress,
 ) -> Result<Body, ElabRefusal>
-    requires stands { Stands progress.old site.now own.entries.items }
-    ensures outcome { GivesBody (types_described equality descs.now (site_at progress.old site.now) (body_at progress.old own.entries.items) (state_of progress.old)) result progress.new }
-    ensures stands { IfOk result (λ body. Stands progress.new site.now body.entries.items) }
-    ensures mentions { OnOk result (Mentions progress.old progress.new) }
+    ensures outcome { GivesBody (types_described equality descs.now (site_of site.now) own.entries (state_of progress.old)) result (state_of progress.new) }
 {
     let before = own.entries.len();
     let mut body = own;

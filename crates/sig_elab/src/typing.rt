@@ -1,23 +1,26 @@
 // From type expressions to types (the Definition of Standard ML, rules 44 to 49).
-ghost use Rattle.std.specs.Prelude.{◌≡◌, ◌∷◌, [], ℕ, List, Some, true, false, map, length, bytes_eq, IfOk, MatchOption, OnOk};
+ghost use Rattle.std.specs.Prelude.{◌≡◌, ◌∷◌, [], ℕ, List, Some, true, false, map, length, bytes_eq, IfOk, MatchOption};
+ghost use Rattle.std.specs.Option.{option_copied};
+ghost use Rattle.sig_elab.specs.Environments.{type_in};
 ghost use Rattle.sig_elab.specs.Outcome.{Gives, GivesWith};
 ghost use Rattle.sig_elab.specs.Sources.{variable};
 ghost use Rattle.sig_elab.specs.States.{State};
 ghost use Rattle.sig_elab.specs.Types as spec;
-ghost use Rattle.sig_elab.specs.Types.{all_typed, field_typed, fields_typed, typed, variable_of};
-ghost use Rattle.std.specs.List.{All};
-ghost use Rattle.sig_elab.specs.Standing.{IsSettledType, Mentions, Sees};
-ghost use Rattle.sig_elab.specs.Views.{place_by_now, state_of, texts, variables_of};
+ghost use Rattle.sig_elab.specs.Types.{all_typed, field_typed, fields_typed, found_type, typed, variable_of};
+ghost use Rattle.sig_elab.specs.Views.{place_of, scope_of, state_of, texts, variables_of};
 ghost use Rattle.type_core.specs.Variables.{occurs, place, same_variable};
 
 use crate::arrows::arrows;
+use crate::entry::TypeEntry;
+use crate::finding::find_type;
 use crate::labels::record;
 use crate::limits::limited;
-use crate::look_ups::function_at;
 use crate::place::Place;
 use crate::places::Places;
 use crate::progress::Progress;
 use crate::refusal::{ElabRefusal, Why};
+use crate::scope::Scope;
+use crate::texts::is_qualified;
 use crate::variables::Variables;
 use sig_base::{List, NoMemory, Text};
 use std::alloc::Global;
@@ -59,44 +62,60 @@ fn parameter(parameters: &[VarId], marks: bool, v: VarId, token: u32) -> Result<
 }
 
 // The type of the variable at a token.
-fn variable_type(place: &Place<'_, '_>, token: u32) -> Result<Ty, ElabRefusal>
-    ensures outcome { Gives (variable_of (variables_of place.now.variables) (variable (texts place.now.site.source) token) token) result }
+fn variable_type(place: &Place<'_>, token: u32) -> Result<Ty, ElabRefusal>
+    ensures outcome { Gives (variable_of (variables_of place.now.variables) (variable (texts place.now.source) token) token) result }
 {
-    let v = place.site.source.variable(token);
+    let v = place.source.variable(token);
     match place.variables {
         Variables::Any => Ok(Ty::Var(v)),
         Variables::Parameters(marks, parameters) => parameter(parameters, marks, v, token),
     }
 }
 
+// The type constructor of an identifier: in the body, else among the initial types.
+fn found_type<'a>(place: &Place<'a>, id: &[u8]) -> Option<&'a TypeEntry>
+    ensures value { option_copied result ≡ found_type id.now (scope_of place.now.own) }
+{
+    match scoped_type(place.own, id) {
+        Some(entry) => Some(entry),
+        None => find_type(place.initial, id),
+    }
+}
+
+// The type constructor of an identifier in what is seen of a body.
+fn scoped_type<'a>(scope: Scope<'a>, id: &[u8]) -> Option<&'a TypeEntry>
+    ensures value { option_copied result ≡ type_in id.now (scope_of scope.entry) }
+{
+    match scope {
+        Scope::All(body) => body.find_type(id),
+        Scope::Before(body, count) => body.find_type_before(id, count),
+    }
+}
+
 // The type constructor at a token, applied to arguments.
 fn constructed(
     alloc: Global,
-    place: &Place<'_, '_>,
+    place: &Place<'_>,
     token: u32,
     arguments: &List<Ty>,
     progress: &mut Progress,
 ) -> Result<Ty, ElabRefusal>
-    requires sees { Sees progress.old place.now.site place.now.own.entries.now }
-    requires arguments { All (IsSettledType progress.old.table) arguments.now }
-    ensures outcome { GivesWith (spec.constructed (place_by_now progress.old place.now) token arguments.now (state_of progress.old)) result (state_of progress.new) }
-    ensures settled { IfOk result (IsSettledType progress.new.table) }
-    ensures sees { OnOk result (Sees progress.new place.now.site place.now.own.entries.now) }
-    ensures grew { OnOk result (Mentions progress.old progress.new) }
+    ensures outcome { GivesWith (spec.constructed (place_of place.now) token arguments.now (state_of progress.old)) result (state_of progress.new) }
 {
-    let fun = function_at(
-        alloc,
-        token,
-        arguments.len(),
-        &place.site,
-        place.own,
-        progress,
-    )?;
-    if arguments.len() != fun.arity as usize {
-        return Err(ElabRefusal::Refused(Why::WrongArity, token));
+    let id = place.source.text(token);
+    if is_qualified(id) {
+        return Err(ElabRefusal::Refused(Why::NotBuilt, token));
     }
-    let t = apply_fn(alloc, &fun, arguments)?;
-    limited(place.first, t)
+    match found_type(place, id) {
+        None => Err(ElabRefusal::Refused(Why::Unbound, token)),
+        Some(entry) => {
+            if arguments.len() != entry.fun.arity as usize {
+                return Err(ElabRefusal::Refused(Why::WrongArity, token));
+            }
+            let t = apply_fn(alloc, &entry.fun, arguments)?;
+            limited(place.first, t)
+        }
+    }
 }
 
 fn one(alloc: Global, t: Ty) -> Result<List<Ty>, NoMemory>
@@ -110,17 +129,12 @@ fn one(alloc: Global, t: Ty) -> Result<List<Ty>, NoMemory>
 // The constructors at these tokens, each applied to what stands before it, the first to the arguments.
 fn constructed_all(
     alloc: Global,
-    place: &Place<'_, '_>,
+    place: &Place<'_>,
     arguments: List<Ty>,
     constructors: &[u32],
     progress: &mut Progress,
 ) -> Result<Ty, ElabRefusal>
-    requires sees { Sees progress.old place.now.site place.now.own.entries.now }
-    requires arguments { All (IsSettledType progress.old.table) arguments }
-    ensures outcome { GivesWith (spec.constructed_all (place_by_now progress.old place.now) arguments constructors.now (state_of progress.old)) result (state_of progress.new) }
-    ensures settled { IfOk result (IsSettledType progress.new.table) }
-    ensures sees { OnOk result (Sees progress.new place.now.site place.now.own.entries.now) }
-    ensures grew { OnOk result (Mentions progress.old progress.new) }
+    ensures outcome { GivesWith (spec.constructed_all (place_of place.now) arguments constructors.now (state_of progress.old)) result (state_of progress.new) }
 {
     let [first, others @ ..] = constructors else {
         return Ok(Ty::Tup(arguments));
@@ -138,14 +152,10 @@ fn constructed_all(
 pub fn type_of(
     alloc: Global,
     e: &TyExp,
-    place: &Place<'_, '_>,
+    place: &Place<'_>,
     progress: &mut Progress,
 ) -> Result<Ty, ElabRefusal>
-    requires sees { Sees progress.old place.now.site place.now.own.entries.now }
-    ensures outcome { GivesWith (typed e.now (place_by_now progress.old place.now) (state_of progress.old)) result (state_of progress.new) }
-    ensures settled { IfOk result (IsSettledType progress.new.table) }
-    ensures sees { OnOk result (Sees progress.new place.now.site place.now.own.entries.now) }
-    ensures grew { OnOk result (Mentions progress.old progress.new) }
+    ensures outcome { GivesWith (typed e.now (place_of place.now) (state_of progress.old)) result (state_of progress.new) }
 {
     match e {
         TyExp::Var(token) => variable_type(place, *token),
@@ -173,14 +183,10 @@ pub fn type_of(
 fn all_types(
     alloc: Global,
     parts: &[TyExp],
-    place: &Place<'_, '_>,
+    place: &Place<'_>,
     progress: &mut Progress,
 ) -> Result<List<Ty>, ElabRefusal>
-    requires sees { Sees progress.old place.now.site place.now.own.entries.now }
-    ensures outcome { GivesWith (all_typed (map typed parts.now) (place_by_now progress.old place.now) (state_of progress.old)) result (state_of progress.new) }
-    ensures settled { IfOk result (λ ts. All (IsSettledType progress.new.table) ts) }
-    ensures sees { OnOk result (Sees progress.new place.now.site place.now.own.entries.now) }
-    ensures grew { OnOk result (Mentions progress.old progress.new) }
+    ensures outcome { GivesWith (all_typed (map typed parts.now) (place_of place.now) (state_of progress.old)) result (state_of progress.new) }
 {
     let mut types = List::new(alloc);
     for part in parts {
@@ -194,19 +200,15 @@ fn all_types(
 fn all_fields(
     alloc: Global,
     parts: &[FieldExp],
-    place: &Place<'_, '_>,
+    place: &Place<'_>,
     progress: &mut Progress,
 ) -> Result<List<Field>, ElabRefusal>
-    requires sees { Sees progress.old place.now.site place.now.own.entries.now }
-    ensures outcome { GivesWith (fields_typed (place_by_now progress.old place.now) [] (map field_typed parts.now) (state_of progress.old)) result (state_of progress.new) }
-    ensures settled { IfOk result (λ fields. All (λ field. IsSettledType progress.new.table field.ty) fields) }
-    ensures sees { OnOk result (Sees progress.new place.now.site place.now.own.entries.now) }
-    ensures grew { OnOk result (Mentions progress.old progress.new) }
+    ensures outcome { GivesWith (fields_typed (place_of place.now) [] (map field_typed parts.now) (state_of progress.old)) result (state_of progress.new) }
 {
     let mut labels = Places::new(alloc);
     let mut fields = List::new(alloc);
     for part in parts {
-        let text = place.site.source.text(part.label);
+        let text = place.source.text(part.label);
         if labels.has(text) {
             return Err(ElabRefusal::Refused(Why::Duplicate, part.label));
         }

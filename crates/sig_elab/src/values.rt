@@ -1,10 +1,7 @@
 // Value specifications.
-ghost use Rattle.std.specs.Prelude.{IfOk, OnOk};
-ghost use Rattle.sig_elab.specs.Outcome.{GivesWith};
-ghost use Rattle.sig_elab.specs.Standing.{Grew, IsSettledType, Mentions, Sees, Stands};
-ghost use Rattle.sig_elab.specs.Types.{typed};
-ghost use Rattle.sig_elab.specs.Values.{value_described, value_place, values_described};
-ghost use Rattle.sig_elab.specs.Views.{GivesBody, body_at, site_at, state_of};
+ghost use Rattle.sig_elab.specs.Values as spec;
+ghost use Rattle.sig_elab.specs.Values.{value_described, values_described};
+ghost use Rattle.sig_elab.specs.Views.{GivesBody, site_of, state_of};
 
 use crate::adding::add_closed;
 use crate::body::Body;
@@ -12,36 +9,13 @@ use crate::limits::is_normal_small;
 use crate::place::Place;
 use crate::progress::Progress;
 use crate::refusal::{ElabRefusal, Why};
+use crate::scope::Scope;
 use crate::site::Site;
 use crate::typing::type_of;
 use crate::variables::Variables;
 use sig_parser::ValDesc;
 use std::alloc::Global;
-use type_core::{Kind, Ty};
-
-// The type of a value, in which any variable may stand.
-fn type_of_value(
-    alloc: Global,
-    site: &Site<'_>,
-    value: &ValDesc,
-    own: &Body,
-    progress: &mut Progress,
-) -> Result<Ty, ElabRefusal>
-    requires sees { Sees progress.old site.now own.now.entries.items }
-    ensures outcome { GivesWith (typed value.now.ty.ty (value_place (site_at progress.old site.now) value.now.ty.first (body_at progress.old own.now.entries.items)) (state_of progress.old)) result (state_of progress.new) }
-    ensures settled { IfOk result (IsSettledType progress.new.table) }
-    ensures sees { OnOk result (Sees progress.new site.now own.now.entries.items) }
-    ensures mentions { OnOk result (Mentions progress.old progress.new) }
-{
-    let seen = own.scope();
-    let place = Place {
-        site: *site,
-        own: seen,
-        first: value.ty.first,
-        variables: Variables::Any,
-    };
-    type_of(alloc, &value.ty.ty, &place, progress)
-}
+use type_core::Kind;
 
 // The body after the description of a value.
 fn describe_value(
@@ -51,15 +25,19 @@ fn describe_value(
     own: Body,
     progress: &mut Progress,
 ) -> Result<Body, ElabRefusal>
-    requires stands { Stands progress.old site.now own.entries.items }
-    ensures outcome { GivesBody (value_described value.now (site_at progress.old site.now) (body_at progress.old own.entries.items) (state_of progress.old)) result progress.new }
-    ensures stands { IfOk result (λ body. Stands progress.new site.now body.entries.items) }
-    ensures mentions { OnOk result (Mentions progress.old progress.new) }
+    ensures outcome { GivesBody (value_described value.now (site_of site.now) own.entries (state_of progress.old)) result (state_of progress.new) }
 {
-    if !own.scope().is_new_value(site.source.text(value.id)) {
+    if !own.is_new_value(site.source.text(value.id)) {
         return Err(ElabRefusal::Refused(Why::Duplicate, value.id));
     }
-    let t = type_of_value(alloc, site, value, &own, progress)?;
+    let place = Place {
+        source: site.source,
+        first: value.ty.first,
+        variables: Variables::Any,
+        own: Scope::All(&own),
+        initial: site.initial,
+    };
+    let t = type_of(alloc, &value.ty.ty, &place, progress)?;
     if !is_normal_small(&t) {
         return Err(ElabRefusal::Refused(Why::NormalTooLarge, value.ty.first));
     }
@@ -74,10 +52,7 @@ pub fn describe_values(
     own: Body,
     progress: &mut Progress,
 ) -> Result<Body, ElabRefusal>
-    requires stands { Stands progress.old site.now own.entries.items }
-    ensures outcome { GivesBody (values_described values.now (site_at progress.old site.now) (body_at progress.old own.entries.items) (state_of progress.old)) result progress.new }
-    ensures stands { IfOk result (λ body. Stands progress.new site.now body.entries.items) }
-    ensures mentions { OnOk result (Mentions progress.old progress.new) }
+    ensures outcome { GivesBody (values_described values.now (site_of site.now) own.entries (state_of progress.old)) result (state_of progress.new) }
 {
     let mut body = own;
     for value in values {

@@ -15,8 +15,8 @@ use Rattle.sig_parser.specs.declared.tree.ValDesc.{ValDesc}
 use Rattle.sig_parser.specs.declared.tree.WherePart.{WherePart}
 use Rattle.sig_parser.specs.Grammar.{Separated, one, more, Named, named, Typed, typed, TyVar, tyvar, TyVarSeq, no_variables, variable, variables, Value, value, Constructor, constructor, Abbreviation, without_type, with_type, Con, constant, carrying, DatDesc, datdesc, Part, part, Wheres, no_parts, parts, Parts, by_where, by_and, name_of, Names, two_names, more_names, Equated, equated}
 use Rattle.sig_elab.specs.Sources.{text_at}
-use Rattle.sig_elab.specs.Spelling as spelling
-use Rattle.sig_elab.specs.Spelling.{IsSpelledType, IsSpelledValue, IsSpelledTycon, IsSpelledConstructor, IsSpelledDatatype, IsSpelledPart, IsSpelledSignature, AreSpelledSignatures}
+use Rattle.sig_elab.proofs.spelling.Spelled as spelling
+use Rattle.sig_elab.proofs.spelling.Spelled.{IsSpelledType, IsSpelledValue, IsSpelledTycon, IsSpelledConstructor, IsSpelledDatatype, IsSpelledPart, IsSpelledSignature, AreSpelledSignatures}
 use Rattle.sig_elab.proofs.spelling.Sorts.{constructor_text, type_text, value_text}
 use Rattle.sig_elab.proofs.spelling.Tokens.{HaveTexts}
 use Rattle.sig_elab.proofs.spelling.Types.{type_spelled}

@@ -7,8 +7,8 @@ use Rattle.ty_parser.specs.declared.tree.FieldExp.{FieldExp}
 use Rattle.ty_parser.specs.Grammar.{Numbered, of_parts, field, Ty, sides, Sides, one_side, more_sides, Tuple, parts, Parts, one_part, more_parts, App, alone, applied, Applied, to_none, to_one, to_more, further, Unary, variable, no_fields, fields, parens, Fields, one_field, more_fields, Types, one_type, more_types}
 use Rattle.type_core.specs.ValidLibrary.{IsLabel}
 use Rattle.sig_elab.specs.Sources.{text_at}
-use Rattle.sig_elab.specs.Spelling as spelling
-use Rattle.sig_elab.specs.Spelling.{IsSpelledType, AreSpelledTypes, AreSpelledFields}
+use Rattle.sig_elab.proofs.spelling.Spelled as spelling
+use Rattle.sig_elab.proofs.spelling.Spelled.{IsSpelledType, AreSpelledTypes, AreSpelledFields}
 use Rattle.sig_elab.proofs.spelling.Sorts.{label_text}
 use Rattle.sig_elab.proofs.spelling.Tokens.{HaveTexts}
 

@@ -2,4 +2,4 @@ use Rattle.conv_build.proofs.PlainConverters.{there_and_back}
 use Rattle.conv_build.proofs.laws.moving_there_and_back_undoes_itself.Goals as goal
 
 pub returns : goal.returns
-returns c = record { law = λ ctx a b p es ka kb k l. there_and_back a b p ka kb k ctx es l }
+returns c = record { law = there_and_back }

@@ -1,16 +1,10 @@
 use Rattle.std.proofs.Common.{◌≡◌, drop}
 use Rattle.sig_elab.specs.Bodies.{in_turn}
 use Rattle.sig_elab.specs.Constructors.{constructor_described}
-use Rattle.sig_elab.specs.Standing.{IsSettledType, Mentions, Stands}
-use Rattle.sig_elab.specs.Views.{body_at, family_of, site_at, state_of}
+use Rattle.sig_elab.specs.Views.{family_of, site_of, state_of}
 use Rattle.sig_elab.proofs.constructors.describe_constructors.Given as goal
 
 abbrev pub invariant-loop-constructor : goal.invariant-loop-constructor
-invariant-loop-constructor l = record {
-  turns :
-      in_turn (λ c. constructor_described c (family_of l.family)) (drop l.constructor-index l.constructors) (site_at l.progress l.site) (body_at l.progress l.body.entries.items) (state_of l.progress)
-      ≡ in_turn (λ c. constructor_described c (family_of l.family)) l.constructors (site_at l.fn.progress l.site) (body_at l.fn.progress l.fn.own.entries.items) (state_of l.fn.progress);
-  stands : Stands l.progress l.site l.body.entries.items;
-  mentions : Mentions l.fn.progress l.progress;
-  made : IsSettledType l.progress.table l.family.made.now;
-}
+invariant-loop-constructor l =
+    in_turn (λ c. constructor_described c (family_of l.family)) (drop l.constructor-index l.constructors) (site_of l.site) l.body.entries (state_of l.progress)
+    ≡ in_turn (λ c. constructor_described c (family_of l.family)) l.constructors (site_of l.site) l.fn.own.entries (state_of l.fn.progress)

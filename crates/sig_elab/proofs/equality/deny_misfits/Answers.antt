@@ -1,4 +1,4 @@
-use Rattle.std.proofs.Common.{true≢false, arith, ◌∙◌}
+use Rattle.std.proofs.Common.{true≢false, arith}
 use Rattle.sig_elab.proofs.Rounds.{bound_without, fewer_after}
 use Rattle.sig_elab.proofs.equality.deny_misfits.Goals as goal
 
@@ -13,5 +13,4 @@ loop-entry-preserved c =
       fit = λ changed. absurd (true≢false changed);
       fewer = λ changed. fewer;
       no_more = omega (arith, fewer);
-      realizations = denied.realizations ∙ c.loop-entry.invariant.realizations;
     }

@@ -10,5 +10,4 @@ invariant-loop-entry l = record {
   fit : l.changed ≡ false → all_fit l.table.names (drop l.entry-index l.entries) ≡ all_fit l.table.names l.entries;
   fewer : l.changed ≡ true → live_count l.table.names < live_count l.fn.table.names;
   no_more : live_count l.table.names ≤ live_count l.fn.table.names;
-  realizations : l.table.realizations ≡ l.fn.table.realizations;
 }

@@ -1,23 +1,11 @@
-use Rattle.std.proofs.Common.{refl}
-use Rattle.sig_elab.proofs.Sites.{site_mentions}
-use Rattle.std.proofs.lemmas.List.Elements.{All-weaker}
-use Rattle.sig_elab.proofs.Stands.{settled_type_mentions}
-use Rattle.sig_elab.proofs.Staying.{mentions_itself, mentions_twice}
-use Rattle.sig_elab.proofs.Turns.{turn_ends, turn_moves_on}
+use Rattle.sig_elab.specs.Replications.{value_copied}
+use Rattle.sig_elab.proofs.Turns.{turn_ends, turn_goes_on}
 use Rattle.sig_elab.proofs.replicas.copy_constructors.Goals as goal
-
-pub loop-value-init : goal.loop-value-init
-loop-value-init c = record { turns = refl; stands = c.requires.stands; mentions = mentions_itself _; settled = c.requires.settled }
 
 pub returns-in_err-body : goal.returns-in_err-body
 returns-in_err-body c = record {
-  outcome = turn_ends _ _ _ _ _ _ _ _ _ _ _ _ c.loop-value-test.true c.value-item.is c.loop-value.invariant.turns c.from_residual.ensures.1 c.in_err-body.ensures.outcome;
+  outcome = turn_ends (value_copied c.args.token) _ _ _ _ _ _ _ _ _ _ _ c.loop-value-test.true c.value-item.is c.loop-value.invariant c.from_residual.ensures.1 c.in_err-body.ensures.outcome;
 }
 
 pub loop-value-preserved : goal.loop-value-preserved
-loop-value-preserved c = record {
-  turns = turn_moves_on _ _ _ _ _ _ _ _ _ _ _ _ (site_mentions _ _ c.args.site.now c.in_ok-body.ensures.mentions) c.loop-value-test.true c.value-item.is c.loop-value.invariant.turns c.in_ok-body.ensures.outcome;
-  stands = c.in_ok-body.ensures.stands;
-  mentions = mentions_twice _ _ _ c.loop-value.invariant.mentions c.in_ok-body.ensures.mentions;
-  settled = All-weaker _ _ (λ value s. record { body = settled_type_mentions _ _ _ c.in_ok-body.ensures.mentions s.body; is_closed = s.is_closed }) _ c.loop-value.invariant.settled;
-}
+loop-value-preserved c = turn_goes_on (value_copied c.args.token) _ _ _ _ _ _ _ _ _ _ c.loop-value-test.true c.value-item.is c.loop-value.invariant c.in_ok-body.ensures.outcome

@@ -1,20 +1,10 @@
-use Rattle.std.proofs.Common.{refl}
-use Rattle.sig_elab.proofs.Sites.{site_mentions}
-use Rattle.sig_elab.proofs.Staying.{mentions_itself, mentions_twice}
-use Rattle.sig_elab.proofs.Turns.{turn_ends, turn_moves_on}
+use Rattle.sig_elab.proofs.Turns.{turn_ends, turn_goes_on}
 use Rattle.sig_elab.proofs.values.describe_values.Goals as goal
-
-pub loop-value-init : goal.loop-value-init
-loop-value-init c = record { turns = refl; stands = c.requires.stands; mentions = mentions_itself _ }
 
 pub returns-in_err-body : goal.returns-in_err-body
 returns-in_err-body c = record {
-  outcome = turn_ends _ _ _ _ _ _ _ _ _ _ _ _ c.loop-value-test.true c.value-item.is c.loop-value.invariant.turns c.from_residual.ensures.1 c.in_err-body.ensures.outcome;
+  outcome = turn_ends _ _ _ _ _ _ _ _ _ _ _ _ c.loop-value-test.true c.value-item.is c.loop-value.invariant c.from_residual.ensures.1 c.in_err-body.ensures.outcome;
 }
 
 pub loop-value-preserved : goal.loop-value-preserved
-loop-value-preserved c = record {
-  turns = turn_moves_on _ _ _ _ _ _ _ _ _ _ _ _ (site_mentions _ _ c.args.site.now c.in_ok-body.ensures.mentions) c.loop-value-test.true c.value-item.is c.loop-value.invariant.turns c.in_ok-body.ensures.outcome;
-  stands = c.in_ok-body.ensures.stands;
-  mentions = mentions_twice _ _ _ c.loop-value.invariant.mentions c.in_ok-body.ensures.mentions;
-}
+loop-value-preserved c = turn_goes_on _ _ _ _ _ _ _ _ _ _ _ c.loop-value-test.true c.value-item.is c.loop-value.invariant c.in_ok-body.ensures.outcome
