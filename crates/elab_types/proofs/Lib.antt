@@ -1,0 +1,13 @@
+pub mod Held
+pub mod FirstPlaces
+pub mod Lists
+pub mod Outcomes
+pub mod ArrowChains
+pub mod ManyFields
+pub mod Fields
+pub mod Made
+pub mod Renamed
+pub mod spelling
+pub mod Spans
+pub mod Readings
+pub mod OneReading

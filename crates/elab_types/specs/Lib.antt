@@ -1,0 +1,10 @@
+pub mod Outcome
+pub mod Finding
+pub mod Sources
+pub mod Places
+pub mod Views
+pub mod Arrows
+pub mod Records
+pub mod Spelling
+pub mod Soundness
+pub mod Stages
