@@ -1,0 +1,7 @@
+mod Searching
+mod Giving
+mod Levels
+mod Typed
+mod Asked
+mod OneAnswer
+mod Refused

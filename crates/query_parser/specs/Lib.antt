@@ -1,0 +1,4 @@
+pub mod Constructors
+pub mod Types
+pub mod Queries
+pub mod Views
