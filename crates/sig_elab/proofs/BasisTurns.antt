@@ -11,12 +11,14 @@ use Rattle.sig_elab.specs.declared.refusal.Why.TheVariants.{Duplicate}
 use Rattle.sig_elab.specs.declared.units.Units.{Units}
 use Rattle.sig_elab.specs.Elaborators.{GivesBasis}
 use Rattle.sig_elab.specs.Files.{identifiers_checked, is_new_unit}
-use Rattle.sig_elab.specs.Finding.{none_of}
+use Rattle.elab_types.specs.Finding.{none_of}
 use Rattle.sig_elab.specs.Library.{Basis}
-use Rattle.sig_elab.specs.Outcome.{Outcome, and_then, checked, failed}
-use Rattle.sig_elab.specs.Sources.{text_at}
+use Rattle.sig_elab.specs.Outcome.{Outcome}
+use Rattle.elab_types.specs.Outcome.{and_then, checked, failed}
+use Rattle.elab_types.specs.Sources.{text_at}
 use Rattle.sig_elab.specs.Specifications.{Signature, binding_of, signature_of}
-use Rattle.sig_elab.proofs.Outcomes.{dropped, handed_on}
+use Rattle.elab_types.proofs.Lists.{dropped}
+use Rattle.sig_elab.proofs.Outcomes.{handed_on}
 use Rattle.sig_elab.proofs.ParameterTexts.{held_more, none_is, none_more}
 
 -- a binding's identifier and right side

@@ -17,8 +17,9 @@ use Rattle.sig_elab.specs.Elaborators.{GivesBasis}
 use Rattle.sig_elab.specs.Environments.{Environment}
 use Rattle.sig_elab.specs.Files.{bound, library_limited}
 use Rattle.sig_elab.specs.Library.{Basis}
-use Rattle.sig_elab.specs.Outcome.{Agrees, Outcome, and_then, checked, failed}
-use Rattle.sig_elab.specs.Sources.{text_at}
+use Rattle.sig_elab.specs.Outcome.{Agrees, Outcome}
+use Rattle.elab_types.specs.Outcome.{and_then, checked, failed}
+use Rattle.elab_types.specs.Sources.{text_at}
 use Rattle.sig_elab.specs.Specifications.{Signature, binding_of, signature_of}
 use Rattle.sig_elab.specs.States.{State, weighed}
 use Rattle.sig_elab.specs.Totals.{AreTotals}

@@ -7,12 +7,12 @@ use Rattle.sig_elab.specs.declared.entry.Entry.{Entry, out-Entry}
 use Rattle.sig_elab.specs.declared.entry.Entry.TheOpen.{Entry-F, Tycon, Value, Structure}
 use Rattle.sig_elab.specs.declared.entry.Entry.TheViews as views
 use Rattle.sig_elab.specs.Environments.{Environment, type_entry, is_type, is_value, is_new_type, is_new_value, the_type, the_value, type_at, type_in, type_of, type_step, value_at, value_in, value_of, value_step}
-use Rattle.sig_elab.specs.Finding.{place_of}
+use Rattle.elab_types.specs.Finding.{place_of}
 use Rattle.sig_elab.specs.Bodies.{Site, added}
-use Rattle.sig_elab.specs.Outcome.{and_then}
+use Rattle.elab_types.specs.Outcome.{and_then}
 use Rattle.sig_elab.specs.States.{State, entry_weight, member_of, tycon_of, weighed}
 use Rattle.type_core.specs.Weight.{member_weight, tycon_weight}
-use Rattle.sig_elab.proofs.FirstPlaces.{front_before, front_with, front_without, given_at, given_by_place, kept_place, placed_more}
+use Rattle.elab_types.proofs.FirstPlaces.{front_before, front_with, front_without, given_at, given_by_place, kept_place, placed_more}
 
 -- ---- an entry of an identifier
 some_if : {A : Type 0} (b : Bool) (x y : A) → (if b then Some x else None) ≡ Some y → Some x ≡ Some y

@@ -4,7 +4,7 @@ use Rattle.std.proofs.lemmas.Bool.{eq-eqb}
 use Rattle.type_core.specs.declared.ty.Ty.{Ty}
 use Rattle.type_core.specs.TypeFunctions.{applied}
 use Rattle.sig_elab.specs.declared.entry.TypeEntry.{TypeEntry}
-use Rattle.sig_elab.specs.Sources.{is_qualified, text_at}
+use Rattle.elab_types.specs.Sources.{is_qualified, text_at}
 use Rattle.sig_elab.specs.States.{State}
 use Rattle.sig_elab.specs.Types.{Place, constructed, found_type, limited}
 

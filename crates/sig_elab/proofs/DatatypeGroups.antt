@@ -15,13 +15,13 @@ use Rattle.sig_elab.specs.Bodies.{Described, Site, added}
 use Rattle.sig_elab.specs.Constructors.{constructors_described}
 use Rattle.sig_elab.specs.Datatypes.{datatype_entry, datatype_family, datatype_head, group_constructed, identifiers}
 use Rattle.sig_elab.specs.Environments.{Environment, is_new_type, the_type}
-use Rattle.sig_elab.specs.Outcome.{and_then}
+use Rattle.elab_types.specs.Outcome.{and_then}
 use Rattle.sig_elab.specs.Parameters.{marked, parameters_checked, variables_at}
-use Rattle.sig_elab.specs.Sources.{text_at, variable}
+use Rattle.elab_types.specs.Sources.{text_at, variable}
 use Rattle.sig_elab.specs.States.{State, with_name, within}
 use Rattle.sig_elab.specs.Types.{Parameters}
 use Rattle.sig_elab.specs.Views.{GivesBody}
-use Rattle.sig_elab.proofs.Outcomes.{dropped}
+use Rattle.elab_types.proofs.Lists.{dropped}
 use Rattle.sig_elab.proofs.Turns.{ends}
 
 -- ---- the constructors of the datatype whose turn it is

@@ -8,7 +8,7 @@ use Rattle.sig_parser.specs.declared.tree.SigBase.TheVariants.{rolls-Body, rolls
 use Rattle.sig_parser.specs.declared.tree.SigBase.TheFolds.{fold-SigBase, fold-roll-SigBase, fold-roll-SigExp}
 use Rattle.sig_elab.specs.Bodies.{Described, Site, Specified, in_turn}
 use Rattle.sig_elab.specs.Environments.{Environment}
-use Rattle.sig_elab.specs.Outcome.{and_then}
+use Rattle.elab_types.specs.Outcome.{and_then}
 use Rattle.sig_elab.specs.Specifications.{Base, Signature, base_step, bind_step, signature_of, signature_step, spec_step, specified, with_parts}
 use Rattle.sig_elab.specs.States.{State}
 

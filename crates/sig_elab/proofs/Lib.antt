@@ -1,8 +1,5 @@
-mod Held
-mod FirstPlaces
 mod Bodies
 mod Pushed
-mod ArrowChains
 mod Outcomes
 mod Records
 mod Constructed

@@ -14,7 +14,7 @@ use Rattle.sig_elab.specs.declared.entry.UnitEntry.{UnitEntry}
 use Rattle.sig_elab.specs.declared.entry.ValueEntry.{ValueEntry}
 use Rattle.sig_elab.specs.Library.{entry_members, entry_tycons, members_step, tycons_step, unit_members, unit_tycons}
 use Rattle.sig_elab.specs.States.{member_of, tycon_of, within}
-use Rattle.sig_elab.proofs.Outcomes.{dropped}
+use Rattle.elab_types.proofs.Lists.{dropped}
 
 -- ---- type constructors
 pub tycons_type : (x : Entry) (type : TypeEntry) (path : List ℕ) → x ≡ entry.Tycon type → entry_tycons x path ≡ tycon_of path type ∷ []

@@ -44,14 +44,16 @@ use Rattle.sig_elab.specs.Datatypes.{datatype_entry, datatype_head, datatypes_de
 use Rattle.sig_elab.specs.Environments.{Environment, is_new_type, is_new_value, the_type, the_value}
 use Rattle.sig_elab.specs.Equality.{greatest, with_choice}
 use Rattle.sig_elab.specs.Exceptions.{exceptions}
-use Rattle.sig_elab.specs.Outcome.{Failure, Outcome, and_then, checked, required}
+use Rattle.elab_types.specs.Outcome.{Failure, and_then, checked, required}
+use Rattle.sig_elab.specs.Outcome.{Outcome}
 use Rattle.sig_elab.specs.Parameters.{parameters_checked, variables_at}
 use Rattle.sig_elab.specs.Replications.{Found, found_datatype, replica, replica_described, value_copied}
-use Rattle.sig_elab.specs.Sources.{is_qualified, text_at}
+use Rattle.elab_types.specs.Sources.{is_qualified, text_at}
 use Rattle.sig_elab.specs.Specifications.{Base, Signature, base_step, bind_step, binding_of, not_built, signature_of, signature_step, spec_step, specified, with_parts}
 use Rattle.sig_elab.specs.States.{State, entry_weight, with_name, within}
 use Rattle.sig_elab.specs.TypeDescriptions.{head, plain_type, right_place, right_side, type_described}
-use Rattle.sig_elab.specs.Types.{Place, Typed, all_typed, constructed, constructed_all, constructed_on, field_typed, fields_typed, found_type, is_new_label, limited, typed, typed_field_step, typed_step}
+use Rattle.sig_elab.specs.Types.{Place, Typed, all_typed, constructed, constructed_all, constructed_on, field_typed, fields_typed, found_type, limited, typed, typed_field_step, typed_step}
+use Rattle.elab_types.specs.Records.{is_new_label}
 use Rattle.sig_elab.specs.Values.{closed_value, value_described, value_place}
 use Rattle.sig_elab.proofs.Levels.{base_of, signature_is}
 
@@ -87,7 +89,7 @@ given : {A : Type 0} (s t : State) (a : A) → names_weight t.names ≡ names_we
 unfolding Keeps
 given s t a same = same
 
-fails : (A : Type 0) (s : State) (failure : Failure) → Keeps {A = A} s (Err failure)
+fails : (A : Type 0) (s : State) (failure : Failure Why) → Keeps {A = A} s (Err failure)
 unfolding Keeps
 fails A s failure = tt
 

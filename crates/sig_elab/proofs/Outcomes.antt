@@ -1,9 +1,10 @@
 -- Outcomes of steps, and the answers that give them.
-use Rattle.std.proofs.Common.{◌≡◌, ℕ, ◌+◌, ◌<◌, suc, List, ◌∷◌, length, drop, get_or, Result, Err, IsErrAnd, sym, ap, ◌∙◌, subst, drop-cons, add-one}
+use Rattle.std.proofs.Common.{◌≡◌, Result, Err, IsErrAnd, sym, ap, ◌∙◌, subst}
 use Rattle.std.proofs.lemmas.Result.{err_from_is_err_and}
 use Rattle.sig_elab.specs.declared.refusal.ElabRefusal.{ElabRefusal}
 use Rattle.sig_elab.specs.declared.refusal.ElabRefusal.TheVariants.{Refused, NoMemory}
-use Rattle.sig_elab.specs.Outcome.{Outcome, GivesWith, and_then}
+use Rattle.sig_elab.specs.Outcome.{Outcome, GivesWith}
+use Rattle.elab_types.specs.Outcome.{and_then}
 
 -- what the exit of a `?` hands on
 pub handed_on : {A : Type 0} (result : Result A ElabRefusal) (e : ElabRefusal) → IsErrAnd result (λ other. other ≡ e) → result ≡ Err e
@@ -22,7 +23,3 @@ pub fails_whole : {A B S : Type 0} (o : Outcome (A × S)) (next : A × S → Out
     → and_then o next ≡ whole → result ≡ Err e → GivesWith {A = A} o (Err e) s → GivesWith whole result t
 fails_whole o next whole result e s t is handed gives =
     subst (λ r. GivesWith whole r t) (sym handed) (subst (λ q. GivesWith q (Err e) t) is (fails_then o next e s t gives))
-
--- the element that a loop is at
-pub dropped : {A : Type 0} (xs : List A) (i : ℕ) (x d : A) → i < length xs → x ≡ get_or xs i d → drop i xs ≡ x ∷ drop (i + 1) xs
-dropped xs i x d within is = drop-cons xs i d within ∙ ap (λ y. y ∷ drop (suc i) xs) (sym is) ∙ ap (λ j. x ∷ drop j xs) (sym (add-one i))

@@ -2,11 +2,12 @@
 use Rattle.std.proofs.Common.{◌≡◌, ℕ, ◌+◌, ◌<◌, Bool, true, false, not, ◌&&◌, is_some, if◌then◌else◌, List, [], ◌∷◌, ◌++◌, map, length, take, drop, get_or, bytes_eq, Option, Some, refl, sym, ap, ◌∙◌}
 use Rattle.std.proofs.lemmas.List.{map-append, take_more}
 use Rattle.sig_elab.specs.declared.refusal.Why.TheVariants.{RepeatedParameter}
-use Rattle.sig_elab.specs.Finding.{none_of}
-use Rattle.sig_elab.specs.Outcome.{Outcome, checked, failed}
+use Rattle.elab_types.specs.Finding.{none_of}
+use Rattle.sig_elab.specs.Outcome.{Outcome}
+use Rattle.elab_types.specs.Outcome.{checked, failed}
 use Rattle.sig_elab.specs.Parameters.{parameters_checked}
-use Rattle.sig_elab.specs.Sources.{text_at}
-use Rattle.sig_elab.proofs.Outcomes.{dropped}
+use Rattle.elab_types.specs.Sources.{text_at}
+use Rattle.elab_types.proofs.Lists.{dropped}
 
 -- ---- one more that was seen
 and_more : (a b c : Bool) → (a && (b && c)) ≡ ((a && b) && c)

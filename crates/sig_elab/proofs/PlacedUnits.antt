@@ -4,12 +4,13 @@ use Rattle.std.specs.Option.{option_map, option_or}
 use Rattle.std.proofs.lemmas.List.{take-take, take_all, take_more}
 use Rattle.std.proofs.lemmas.Slice.Eq.{bytes_eq-Decides}
 use Rattle.sig_elab.specs.declared.entry.UnitEntry.{UnitEntry}
-use Rattle.sig_elab.specs.declared.places.Places.{Places}
+use Rattle.elab_types.specs.declared.places.Places.{Places}
 use Rattle.type_core.specs.declared.library.UnitKind.TheVariants.{Sig}
 use Rattle.sig_elab.specs.Files.{is_new_unit}
-use Rattle.sig_elab.specs.Finding.{none_of, place_of}
-use Rattle.sig_elab.specs.Places.{ArePlaced, place_at}
-use Rattle.sig_elab.proofs.FirstPlaces.{none_by_place, place_more}
+use Rattle.elab_types.specs.Finding.{none_of, place_of}
+use Rattle.sig_elab.specs.Places.{ArePlaced}
+use Rattle.elab_types.specs.Places.{place_at}
+use Rattle.elab_types.proofs.FirstPlaces.{none_by_place, place_more}
 
 abbrev is_unit : List ℕ → UnitEntry → Bool
 is_unit id unit = bytes_eq id unit.id

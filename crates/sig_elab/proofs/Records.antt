@@ -1,45 +1,23 @@
 -- Fields of record types.
-use Rattle.std.proofs.Common.{◌≡◌, ℕ, ◌+◌, ◌<◌, Bool, true, false, not, is_some, List, [], ◌∷◌, ◌++◌, map, length, drop, get_or, insert, bytes_eq, Option, Result, Ok, Err, refl, sym, ap, ◌∙◌, subst, rules}
-use Rattle.std.proofs.lemmas.Slice.Eq.{bytes_eq-Decides}
+use Rattle.std.proofs.Common.{◌≡◌, ℕ, ◌+◌, ◌<◌, true, false, List, [], ◌∷◌, ◌++◌, map, length, drop, get_or, Result, Ok, Err, sym, ap, ◌∙◌, subst, rules}
 use Rattle.ty_parser.specs.declared.tree.FieldExp.{FieldExp}
 use Rattle.ty_parser.specs.declared.tree.TyExp.TheFolds.{fold_out-FieldExp}
 use Rattle.type_core.specs.declared.ty.Field.{Field}
 use Rattle.type_core.specs.declared.ty.Ty.{Ty}
 use Rattle.sig_elab.specs.declared.refusal.ElabRefusal.{ElabRefusal}
 use Rattle.sig_elab.specs.declared.refusal.Why.TheVariants.{Duplicate}
-use Rattle.sig_elab.specs.Finding.{none_of, place_of}
-use Rattle.sig_elab.specs.Outcome.{Outcome, GivesWith, and_then, checked, failed}
-use Rattle.sig_elab.specs.Sources.{text_at}
+use Rattle.sig_elab.specs.Outcome.{Outcome, GivesWith}
+use Rattle.elab_types.specs.Outcome.{and_then, checked, failed}
+use Rattle.elab_types.specs.Sources.{text_at}
 use Rattle.sig_elab.specs.States.{State}
-use Rattle.sig_elab.specs.Types.{Place, all_inserted, field_typed, fields_typed, inserted, is_new_label, typed}
-use Rattle.sig_elab.proofs.FirstPlaces.{none_by_place}
-use Rattle.sig_elab.proofs.Outcomes.{dropped, fails_then}
-
--- ---- insertion
--- the last field is inserted first
-pub inserted_last : (fields sorted : List Field) (field : Field) → all_inserted (fields ++ field ∷ []) sorted ≡ all_inserted fields (inserted field sorted)
-inserted_last [] sorted field = refl
-inserted_last (first ∷ fields) sorted field = ap (inserted first) (inserted_last fields sorted field)
-
--- a field put in its place
-pub one_inserted : (rest all sorted items given : List Field) (field : Field) (place : ℕ) (whole : List Field) → items ≡ insert sorted place field → given ≡ sorted → inserted field given ≡ insert given place field
-    → all ≡ rest ++ field ∷ [] → all_inserted all sorted ≡ whole → all_inserted rest items ≡ whole
-one_inserted rest all sorted items given field place whole i g n a w =
-    ap (all_inserted rest) (i ∙ ap (λ xs. insert xs place field) (sym g) ∙ sym n ∙ ap (inserted field) g)
-    ∙ sym (inserted_last rest sorted field)
-    ∙ ap (λ fields. all_inserted fields sorted) (sym a)
-    ∙ w
+use Rattle.sig_elab.specs.Types.{Place, field_typed, fields_typed, typed}
+use Rattle.elab_types.specs.Records.{is_new_label}
+use Rattle.elab_types.proofs.Lists.{dropped}
+use Rattle.sig_elab.proofs.Outcomes.{fails_then}
 
 -- ---- one field
 field_is : (part : FieldExp) → field_typed part ≡ (part.label, typed part.ty)
 field_is part = search (rules, fold_out-FieldExp)
-
-pub is_new_by : (label : List ℕ) (done : List Field) (has : Bool) (place : Option ℕ) → has ≡ is_some place → place ≡ place_of (λ (field : Field). bytes_eq label field.label) done → is_new_label label done ≡ not has
-is_new_by label done has place h e = none_by_place (λ (field : Field). bytes_eq label field.label) done ∙ ap (λ o. not (is_some o)) (sym e) ∙ ap not (sym h)
-
--- a label that is the same is as new
-pub fresh_label : (label text : List ℕ) (fields : List Field) → bytes_eq label text ≡ true → is_new_label text fields ≡ true → none_of (λ (field : Field). bytes_eq label field.label) fields ≡ true
-fresh_label label text fields same new = ap (λ l. is_new_label l fields) ((bytes_eq-Decides label text).0 same) ∙ new
 
 fields_next : (p : Place) (done : List Field) (parts : List FieldExp) (i : ℕ) (part d : FieldExp) (s : State) → i < length parts → part ≡ get_or parts i d
     → fields_typed p done (map field_typed (drop i parts)) s

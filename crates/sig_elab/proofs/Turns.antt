@@ -5,10 +5,11 @@ use Rattle.sig_elab.specs.declared.refusal.ElabRefusal.{ElabRefusal}
 use Rattle.sig_elab.specs.declared.refusal.ElabRefusal.TheVariants.{Refused, NoMemory}
 use Rattle.sig_elab.specs.Bodies.{Described, Site, Specified, in_turn}
 use Rattle.sig_elab.specs.Environments.{Environment}
-use Rattle.sig_elab.specs.Outcome.{and_then}
+use Rattle.elab_types.specs.Outcome.{and_then}
 use Rattle.sig_elab.specs.States.{State}
 use Rattle.sig_elab.specs.Views.{GivesBody}
-use Rattle.sig_elab.proofs.Outcomes.{dropped, handed_on}
+use Rattle.elab_types.proofs.Lists.{dropped}
+use Rattle.sig_elab.proofs.Outcomes.{handed_on}
 
 -- an answer for one outcome is one for another that is the same
 pub body_same : (o p : Described) (result : Result Body ElabRefusal) (s : State) → o ≡ p → GivesBody p result s → GivesBody o result s

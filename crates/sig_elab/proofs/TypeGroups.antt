@@ -11,7 +11,7 @@ use Rattle.sig_elab.specs.declared.entry.Entry.{Entry}
 use Rattle.sig_elab.specs.Bodies.{Site, added}
 use Rattle.sig_elab.specs.Environments.{Environment, is_new_type, the_type}
 use Rattle.sig_elab.specs.Parameters.{parameters_checked, variables_at}
-use Rattle.sig_elab.specs.Sources.{text_at}
+use Rattle.elab_types.specs.Sources.{text_at}
 use Rattle.sig_elab.specs.States.{State}
 use Rattle.sig_elab.specs.TypeDescriptions.{plain_type, right_side, type_described}
 

@@ -9,9 +9,11 @@ use Rattle.ty_parser.specs.declared.tree.TyExp.TheFolds.{fold-roll-TyExp}
 use Rattle.type_core.specs.declared.ty.Field.{Field}
 use Rattle.type_core.specs.declared.ty.Ty.{Ty}
 use Rattle.type_core.specs.declared.ty.Ty.TheVariants as ty
-use Rattle.sig_elab.specs.Outcome.{and_then}
+use Rattle.elab_types.specs.Outcome.{and_then}
 use Rattle.sig_elab.specs.States.{State}
-use Rattle.sig_elab.specs.Types.{Place, all_typed, arrows, field_typed, fields_typed, in_label_order, limited, record_of, typed, typed_field_step, typed_step}
+use Rattle.sig_elab.specs.Types.{Place, all_typed, field_typed, fields_typed, limited, typed, typed_field_step, typed_step}
+use Rattle.elab_types.specs.Arrows.{arrows}
+use Rattle.elab_types.specs.Records.{in_label_order, record_of}
 
 typed_fields : (fields : List FieldExp) → typed (e.Fields fields) ≡ typed_step (Fields (map field_typed fields))
 typed_fields fields = ap typed (sym (rolls-Fields fields)) ∙ fold-roll-TyExp _ _ typed_step typed_field_step _

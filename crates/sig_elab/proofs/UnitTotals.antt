@@ -12,7 +12,8 @@ use Rattle.sig_elab.specs.declared.refusal.Why.TheVariants.{LibraryTooLarge, Too
 use Rattle.sig_elab.specs.declared.totals.Totals.{Totals}
 use Rattle.sig_elab.specs.Files.{library_limited, normal_sum}
 use Rattle.sig_elab.specs.Library.{Basis, empty_basis, library, unit_members, unit_of, unit_tycons}
-use Rattle.sig_elab.specs.Outcome.{Outcome, checked, failed}
+use Rattle.sig_elab.specs.Outcome.{Outcome}
+use Rattle.elab_types.specs.Outcome.{checked, failed}
 use Rattle.sig_elab.specs.States.{State}
 use Rattle.sig_elab.specs.Totals.{AreTotals}
 

@@ -1,6 +1,4 @@
 pub mod Spelled
-pub mod Sorts
-pub mod Tokens
-pub mod Types
+pub mod Values
 pub mod Descriptions
 pub mod Files

@@ -1,9 +1,7 @@
-pub mod Lists
 pub mod Outcomes
 pub mod Names
 pub mod Renamed
 pub mod Made
-pub mod Fields
 pub mod Found
 pub mod Typed
 pub mod Body

@@ -2,7 +2,8 @@
 use Rattle.std.specs.Prelude.{ℕ, List, [], ◌∷◌, ◌++◌, Ok}
 use Rattle.sig_elab.specs.declared.entry.Entry.{Entry}
 use Rattle.sig_elab.specs.Environments.{Environment}
-use Rattle.sig_elab.specs.Outcome.{Outcome, and_then}
+use Rattle.sig_elab.specs.Outcome.{Outcome}
+use Rattle.elab_types.specs.Outcome.{and_then}
 use Rattle.sig_elab.specs.States.{State, entry_weight, weighed}
 
 -- where a body stands: the texts of the file's tokens, and the path of the body

@@ -8,8 +8,9 @@ use Rattle.type_core.specs.declared.ty.Ty.TheVariants as ty
 use Rattle.sig_elab.specs.declared.refusal.Why.TheVariants.{Duplicate}
 use Rattle.sig_elab.specs.Bodies.{Site, Specified, added, in_turn}
 use Rattle.sig_elab.specs.Environments.{Environment, is_new_value, the_value}
-use Rattle.sig_elab.specs.Outcome.{Outcome, and_then, checked}
-use Rattle.sig_elab.specs.Sources.{text_at}
+use Rattle.sig_elab.specs.Outcome.{Outcome}
+use Rattle.elab_types.specs.Outcome.{and_then, checked}
+use Rattle.elab_types.specs.Sources.{text_at}
 use Rattle.sig_elab.specs.States.{State}
 use Rattle.sig_elab.specs.Types.{Variables, Place, limited, typed}
 use Rattle.sig_elab.specs.Values.{closed_value, normal_limited}

@@ -11,9 +11,9 @@ use Rattle.sig_elab.specs.Bodies.{Specified, added, in_turn}
 use Rattle.sig_elab.specs.Constructors.{Family, constructors_described}
 use Rattle.sig_elab.specs.Environments.{Environment, is_new_type, the_type}
 use Rattle.sig_elab.specs.Equality.{with_greatest}
-use Rattle.sig_elab.specs.Outcome.{and_then}
+use Rattle.elab_types.specs.Outcome.{and_then}
 use Rattle.sig_elab.specs.Parameters.{marked, variables_at}
-use Rattle.sig_elab.specs.Sources.{text_at}
+use Rattle.elab_types.specs.Sources.{text_at}
 use Rattle.sig_elab.specs.States.{State, within, with_name}
 use Rattle.sig_elab.specs.TypeDescriptions.{head}
 use Rattle.sig_elab.specs.Types.{Parameters}

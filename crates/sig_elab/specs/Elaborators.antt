@@ -5,7 +5,8 @@ use Rattle.sig_elab.specs.declared.refusal.ElabRefusal.{ElabRefusal}
 use Rattle.sig_elab.specs.declared.refusal.ElabRefusal.TheVariants.{Refused, NoMemory}
 use Rattle.sig_elab.specs.declared.units.Units.{Units}
 use Rattle.sig_elab.specs.Library.{Basis}
-use Rattle.sig_elab.specs.Outcome.{Outcome, failed}
+use Rattle.sig_elab.specs.Outcome.{Outcome}
+use Rattle.elab_types.specs.Outcome.{failed}
 use Rattle.sig_elab.specs.Totals.{AreTotals}
 use Rattle.sig_elab.specs.Views.{state_of}
 

@@ -5,7 +5,7 @@ use Rattle.sig_elab.specs.declared.entry.TypeEntry.{TypeEntry}
 use Rattle.sig_elab.specs.declared.entry.ValueEntry.{ValueEntry}
 use Rattle.sig_elab.specs.declared.entry.Entry.{Entry, out-Entry}
 use Rattle.sig_elab.specs.declared.entry.Entry.TheVariants as entry
-use Rattle.sig_elab.specs.Finding.{first_given, none_of}
+use Rattle.elab_types.specs.Finding.{first_given, none_of}
 use Rattle.sig_elab.specs.declared.entry.Entry.TheOpen.{Entry-F, Tycon, Value}
 
 -- a type constructor and a value as entries

@@ -10,10 +10,11 @@ use Rattle.type_core.specs.NormalSize.{normal_size_of}
 use Rattle.type_core.specs.Weight.{library_weight}
 use Rattle.sig_elab.specs.declared.entry.UnitEntry.{UnitEntry}
 use Rattle.sig_elab.specs.declared.refusal.Why.TheVariants.{Duplicate, TooManyMembers, LibraryTooLarge, NotBuilt}
-use Rattle.sig_elab.specs.Finding.{none_of}
+use Rattle.elab_types.specs.Finding.{none_of}
 use Rattle.sig_elab.specs.Library.{Basis, library}
-use Rattle.sig_elab.specs.Outcome.{Outcome, and_then, checked, failed}
-use Rattle.sig_elab.specs.Sources.{text_at}
+use Rattle.sig_elab.specs.Outcome.{Outcome}
+use Rattle.elab_types.specs.Outcome.{and_then, checked, failed}
+use Rattle.elab_types.specs.Sources.{text_at}
 use Rattle.sig_elab.specs.Specifications.{Signature, binding_of}
 use Rattle.sig_elab.specs.States.{weighed}
 

@@ -1,6 +1,4 @@
 pub mod Outcome
-pub mod Finding
-pub mod Sources
 pub mod Environments
 pub mod InitialEnvironment
 pub mod States

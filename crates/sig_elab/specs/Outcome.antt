@@ -1,35 +1,14 @@
--- What elaboration comes to: checks and steps in order, of which the first that fails is the outcome.
-use Rattle.std.specs.Prelude.{◌≡◌, ℕ, Bool, true, false, Option, Some, None, Result, Ok, Err}
+-- What elaboration comes to, and the answers that give it.
+use Rattle.std.specs.Prelude.{◌≡◌, Result, Ok, Err}
+use Rattle.elab_types.specs.Outcome as general
+use Rattle.elab_types.specs.Outcome.{failed}
 use Rattle.sig_elab.specs.declared.refusal.Why.{Why}
 use Rattle.sig_elab.specs.declared.refusal.ElabRefusal.{ElabRefusal}
 use Rattle.sig_elab.specs.declared.refusal.ElabRefusal.TheVariants.{Refused, NoMemory}
 
--- the condition that failed, and the token at which it did
-pub record Failure : Type 0 where
-  pub why : Why
-  pub token : ℕ
-
--- a value, or the first failure
+-- a value, or the first condition that failed
 abbrev pub Outcome : Type 0 → Type 0
-Outcome A = Result A Failure
-
-abbrev pub failed : {A : Type 0} → Why → ℕ → Outcome A
-failed why token = Err (record { why = why; token = token })
-
--- a step, and what follows with its value
-abbrev pub and_then : {A B : Type 0} → Outcome A → (A → Outcome B) → Outcome B
-and_then (Ok a) next = next a
-and_then (Err failure) next = Err failure
-
--- a condition, how it fails and where, and what follows
-abbrev pub checked : {A : Type 0} → Bool → Why → ℕ → Outcome A → Outcome A
-checked true why token rest = rest
-checked false why token rest = failed why token
-
--- something that must be there, how it fails where it isn't, and what follows with it
-abbrev pub required : {A B : Type 0} → Option A → Why → ℕ → (A → Outcome B) → Outcome B
-required None why token next = failed why token
-required (Some a) why token next = next a
+Outcome A = general.Outcome Why A
 
 -- the answer is the outcome; want of memory is free
 abbrev pub Gives : {A : Type 0} → Outcome A → Result A ElabRefusal → Type 0

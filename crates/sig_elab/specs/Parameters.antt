@@ -4,9 +4,10 @@ use Rattle.type_core.specs.declared.ty.VarId.{VarId}
 use Rattle.type_core.specs.declared.ty.Ty.{Ty}
 use Rattle.type_core.specs.declared.ty.Ty.TheVariants as ty
 use Rattle.sig_elab.specs.declared.refusal.Why.TheVariants.{RepeatedParameter}
-use Rattle.sig_elab.specs.Outcome.{Outcome, checked}
-use Rattle.sig_elab.specs.Finding.{none_of}
-use Rattle.sig_elab.specs.Sources.{text_at, variable}
+use Rattle.sig_elab.specs.Outcome.{Outcome}
+use Rattle.elab_types.specs.Outcome.{checked}
+use Rattle.elab_types.specs.Finding.{none_of}
+use Rattle.elab_types.specs.Sources.{text_at, variable}
 
 -- the variables at tokens
 abbrev pub variables_at : List (List ℕ) → List ℕ → List VarId

@@ -7,8 +7,8 @@ use Rattle.std.specs.Option.{option_or}
 use Rattle.sig_elab.specs.Bodies.{Specified, added, in_turn}
 use Rattle.sig_elab.specs.Environments.{Environment, type_in, values_in, is_new_type, is_new_value, the_type, the_value}
 use Rattle.sig_elab.specs.InitialEnvironment.{initial_environment}
-use Rattle.sig_elab.specs.Outcome.{and_then, checked, required}
-use Rattle.sig_elab.specs.Sources.{text_at, is_qualified}
+use Rattle.elab_types.specs.Outcome.{and_then, checked, required}
+use Rattle.elab_types.specs.Sources.{text_at, is_qualified}
 
 -- a type constructor that was found, and its constructors
 pub record Found : Type 0 where

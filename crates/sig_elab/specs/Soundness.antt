@@ -6,35 +6,20 @@ use Rattle.type_core.specs.declared.library.Library.{Library}
 use Rattle.type_core.specs.declared.names.Equality.TheVariants.{Never, IfArgs}
 use Rattle.type_core.specs.declared.names.TypeName.{TypeName}
 use Rattle.type_core.specs.declared.ty.Scheme.{Scheme}
-use Rattle.type_core.specs.declared.ty.Ty.{Ty}
-use Rattle.type_core.specs.declared.type_fn.TypeFn.{TypeFn}
 use Rattle.type_core.specs.InitialNames.{initial_names}
 use Rattle.type_core.specs.Lists.{sum_of}
 use Rattle.type_core.specs.NormalSize.{normal_size_of}
 use Rattle.type_core.specs.Paths.{IsMemberIdentifier, IsShort, IsTypeIdentifier}
 use Rattle.type_core.specs.Schemes.{IsScheme}
-use Rattle.type_core.specs.TypeFunctions.{IsTypeFn}
-use Rattle.type_core.specs.Types.{IsTypeOver}
-use Rattle.type_core.specs.ValidLibrary.{AreDistinct, IsLabel, IsWithinLimits}
-use Rattle.type_core.specs.Weight.{labels_of, library_weight}
+use Rattle.type_core.specs.ValidLibrary.{AreDistinct, IsWithinLimits}
+use Rattle.type_core.specs.Weight.{library_weight}
 use Rattle.sig_elab.specs.declared.entry.Entry.{Entry, out-Entry}
 use Rattle.sig_elab.specs.declared.entry.Entry.TheOpen.{Entry-F, Tycon, Value, Structure}
 use Rattle.sig_elab.specs.declared.entry.TypeEntry.{TypeEntry}
 use Rattle.sig_elab.specs.declared.entry.UnitEntry.{UnitEntry}
 use Rattle.sig_elab.specs.declared.entry.ValueEntry.{ValueEntry}
+use Rattle.elab_types.specs.Soundness.{IsSoundFunction, IsSoundType}
 use Rattle.sig_elab.specs.Library.{Basis, library}
-
--- a type over these names whose labels are spelled as labels are
-pub record IsSoundType (names : List TypeName) (t : Ty) : Type 0 where
-  pub over : IsTypeOver names t
-  pub labels : All IsLabel (labels_of t)
-
--- a type function whose body is a type over these names, within the limits
-pub record IsSoundFunction (names : List TypeName) (f : TypeFn) : Type 0 where
-  pub arity : f.arity ≤ 1999
-  pub function : IsTypeFn f
-  pub body : IsSoundType names f.body
-  pub limits : IsWithinLimits f.body
 
 -- a scheme whose body is a type over these names, within the limits
 pub record IsSoundScheme (names : List TypeName) (s : Scheme) : Type 0 where

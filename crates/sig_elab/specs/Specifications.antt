@@ -11,7 +11,7 @@ use Rattle.sig_elab.specs.declared.refusal.Why.TheVariants.{NotBuilt}
 use Rattle.sig_elab.specs.Bodies.{Site, Described, Specified, in_turn}
 use Rattle.sig_elab.specs.Datatypes.{datatypes_described}
 use Rattle.sig_elab.specs.Exceptions.{exceptions_described}
-use Rattle.sig_elab.specs.Outcome.{failed}
+use Rattle.elab_types.specs.Outcome.{failed}
 use Rattle.sig_elab.specs.Replications.{replica_described}
 use Rattle.sig_elab.specs.States.{State}
 use Rattle.sig_elab.specs.TypeDescriptions.{types_described}

@@ -11,7 +11,8 @@ use Rattle.sig_elab.specs.declared.entry.TypeEntry.{TypeEntry}
 use Rattle.sig_elab.specs.declared.entry.ValueEntry.{ValueEntry}
 use Rattle.sig_elab.specs.declared.entry.Entry.{Entry, out-Entry}
 use Rattle.sig_elab.specs.declared.entry.Entry.TheOpen.{Entry-F, Tycon as tycon, Value, Structure}
-use Rattle.sig_elab.specs.Outcome.{Outcome, checked}
+use Rattle.sig_elab.specs.Outcome.{Outcome}
+use Rattle.elab_types.specs.Outcome.{checked}
 
 pub record State : Type 0 where
   pub names : List TypeName

@@ -9,10 +9,11 @@ use Rattle.sig_elab.specs.declared.entry.TypeEntry.{TypeEntry}
 use Rattle.sig_elab.specs.declared.refusal.Why.TheVariants.{Duplicate, TypeTooLarge}
 use Rattle.sig_elab.specs.Bodies.{Site, Specified, added, in_turn}
 use Rattle.sig_elab.specs.Environments.{Environment, is_new_type, the_type}
-use Rattle.sig_elab.specs.Outcome.{Outcome, and_then, checked}
+use Rattle.sig_elab.specs.Outcome.{Outcome}
+use Rattle.elab_types.specs.Outcome.{and_then, checked}
 use Rattle.elab_env.specs.Parameters.{name_function}
 use Rattle.sig_elab.specs.Parameters.{parameters_checked, variables_at}
-use Rattle.sig_elab.specs.Sources.{text_at}
+use Rattle.elab_types.specs.Sources.{text_at}
 use Rattle.sig_elab.specs.States.{State, within, with_name}
 use Rattle.sig_elab.specs.Types.{Parameters, Place, typed}
 

@@ -1,7 +1,6 @@
 -- The type that a type expression stands for (the Definition, rules 44 to 49).
-use Rattle.std.specs.Prelude.{ℕ, ◌==◌, ◌&&◌, Bool, not, nat_le, bytes_eq, if◌then◌else◌, List, [], ◌∷◌, ◌++◌, length, map, Option, Ok}
+use Rattle.std.specs.Prelude.{ℕ, ◌==◌, ◌&&◌, Bool, not, nat_le, List, [], ◌∷◌, ◌++◌, length, Option, Ok}
 use Rattle.std.specs.Option.{option_or}
-use Rattle.std.specs.Ordering.{is_lt}
 use Rattle.ty_parser.specs.declared.tree.TyExp.{TyExp}
 use Rattle.ty_parser.specs.declared.tree.TyExp.TheOpen.{TyExp-F, FieldExp-F, Var, Fields, Tuple, Arrows, Apply}
 use Rattle.ty_parser.specs.declared.tree.TyExp.TheFolds.{fold-TyExp, fold-FieldExp}
@@ -11,17 +10,18 @@ use Rattle.type_core.specs.declared.ty.Ty.{Ty}
 use Rattle.type_core.specs.declared.ty.Field.{Field}
 use Rattle.type_core.specs.declared.ty.Ty.TheVariants as ty
 use Rattle.type_core.specs.Height.{height_of}
-use Rattle.type_core.specs.Labels.{label_order, are_tuple_labels}
 use Rattle.type_core.specs.Size.{size_of}
 use Rattle.type_core.specs.TypeFunctions.{applied}
 use Rattle.type_core.specs.Variables.{occurs, place}
 use Rattle.sig_elab.specs.declared.entry.TypeEntry.{TypeEntry}
 use Rattle.sig_elab.specs.declared.refusal.Why.TheVariants.{Unbound, WrongArity, Duplicate, FreeVariable, TypeTooLarge, TypeTooHigh, NotBuilt}
 use Rattle.sig_elab.specs.Environments.{Environment, type_in}
-use Rattle.sig_elab.specs.Finding.{none_of}
 use Rattle.sig_elab.specs.InitialEnvironment.{initial_environment}
-use Rattle.sig_elab.specs.Outcome.{Outcome, and_then, checked, required}
-use Rattle.sig_elab.specs.Sources.{text_at, variable, is_qualified}
+use Rattle.sig_elab.specs.Outcome.{Outcome}
+use Rattle.elab_types.specs.Outcome.{and_then, checked, required}
+use Rattle.elab_types.specs.Arrows.{arrows}
+use Rattle.elab_types.specs.Records.{in_label_order, is_new_label, record_of}
+use Rattle.elab_types.specs.Sources.{text_at, variable, is_qualified}
 use Rattle.sig_elab.specs.States.{State}
 
 -- which variables may stand in a type: any, or these parameters, with their marks or without
@@ -82,20 +82,6 @@ abbrev pub all_typed : List Typed → Place → State → Outcome (List Ty × St
 all_typed [] p s = Ok ([], s)
 all_typed (part ∷ parts) p s = and_then (part p s) (λ r. and_then (all_typed parts p r.1) (λ q. Ok (r.0 ∷ q.0, q.1)))
 
--- an arrow from each side to what stands after it
-abbrev pub arrows_from : Ty → List Ty → Ty
-arrows_from side [] = side
-arrows_from side (next ∷ sides) = ty.Arrow side (arrows_from next sides)
-
--- the sides with arrows between them, grouped to the right; no sides, which no type has, are the tuple of none
-abbrev pub arrows : List Ty → Ty
-arrows [] = ty.Tup []
-arrows (side ∷ sides) = arrows_from side sides
-
--- whether none of the fields has the label
-abbrev pub is_new_label : List ℕ → List Field → Bool
-is_new_label label fields = none_of (λ field. bytes_eq label field.label) fields
-
 -- fields from left to right, of which the first are done; each label is looked at before its type
 abbrev pub fields_typed : Place → List Field → List (ℕ × Typed) → State → Outcome (List Field × State)
 fields_typed p done [] s = Ok (done, s)
@@ -103,26 +89,6 @@ fields_typed p done (field ∷ fields) s =
     checked (is_new_label (text_at p.texts field.0) done) Duplicate field.0
     (and_then (field.1 p s)
     (λ r. fields_typed p (done ++ record { label = text_at p.texts field.0; ty = r.0 } ∷ []) fields r.1))
-
--- fields in label order with one more, which stands before the first whose label comes after its own
-abbrev pub inserted : Field → List Field → List Field
-inserted field [] = field ∷ []
-inserted field (next ∷ fields) = if is_lt (label_order field.label next.label) then field ∷ next ∷ fields else next ∷ inserted field fields
-
--- fields in label order with more of them
-abbrev pub all_inserted : List Field → List Field → List Field
-all_inserted [] sorted = sorted
-all_inserted (field ∷ fields) sorted = inserted field (all_inserted fields sorted)
-
--- the fields in label order
-abbrev pub in_label_order : List Field → List Field
-in_label_order fields = all_inserted fields []
-
--- the type of fields in label order: without fields unit, with the labels 1 to n, n at least 2, a tuple, else a record
-abbrev pub record_of : List Field → Ty
-record_of [] = ty.Tup []
-record_of (field ∷ fields) =
-    if are_tuple_labels (map (λ f. f.label) (field ∷ fields)) then ty.Tup (map (λ f. f.ty) (field ∷ fields)) else ty.Rec (field ∷ fields)
 
 -- the type of one level
 abbrev pub typed_step : TyExp-F Typed (ℕ × Typed) → Typed

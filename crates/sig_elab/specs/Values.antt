@@ -10,8 +10,9 @@ use Rattle.sig_elab.specs.declared.entry.ValueEntry.{ValueEntry}
 use Rattle.sig_elab.specs.declared.refusal.Why.TheVariants.{Duplicate, NormalTooLarge}
 use Rattle.sig_elab.specs.Bodies.{Site, Specified, added, in_turn}
 use Rattle.sig_elab.specs.Environments.{Environment, is_new_value, the_value}
-use Rattle.sig_elab.specs.Outcome.{Outcome, and_then, checked}
-use Rattle.sig_elab.specs.Sources.{text_at}
+use Rattle.sig_elab.specs.Outcome.{Outcome}
+use Rattle.elab_types.specs.Outcome.{and_then, checked}
+use Rattle.elab_types.specs.Sources.{text_at}
 use Rattle.sig_elab.specs.Types.{Any, Place, typed}
 
 -- a value of this type, closed over all its variables

@@ -1,5 +1,5 @@
 -- What the contracts of the code see of its values.
-use Rattle.std.specs.Prelude.{◌≡◌, ℕ, List, Option, Some, None, Result, Ok, Err, take}
+use Rattle.std.specs.Prelude.{◌≡◌, Option, Some, None, Result, Ok, Err, take}
 use Rattle.sig_elab.specs.declared.family.Family.{Family}
 use Rattle.sig_elab.specs.declared.found.Found.{Found}
 use Rattle.sig_elab.specs.declared.place.Place.{Place}
@@ -10,21 +10,16 @@ use Rattle.sig_elab.specs.declared.refusal.ElabRefusal.TheVariants.{Refused, NoM
 use Rattle.sig_elab.specs.declared.scope.Scope.{Scope}
 use Rattle.sig_elab.specs.declared.scope.Scope.TheVariants as scope
 use Rattle.sig_elab.specs.declared.site.Site.{Site}
-use Rattle.sig_elab.specs.declared.source.Source.{Source}
 use Rattle.sig_elab.specs.declared.variables.Variables.{Variables}
 use Rattle.sig_elab.specs.declared.variables.Variables.TheVariants as variables
 use Rattle.sig_elab.specs.Bodies as bodies
 use Rattle.sig_elab.specs.Constructors as constructors
 use Rattle.sig_elab.specs.Environments.{Environment}
-use Rattle.sig_elab.specs.Outcome.{failed}
+use Rattle.elab_types.specs.Outcome.{failed}
 use Rattle.sig_elab.specs.Replications as replications
-use Rattle.sig_elab.specs.Sources.{texts_of}
+use Rattle.elab_types.specs.Views.{texts}
 use Rattle.sig_elab.specs.States.{State}
 use Rattle.sig_elab.specs.Types as spec
-
--- the texts of a source's tokens
-abbrev pub texts : Source → List (List ℕ)
-texts source = texts_of source.bytes.now source.tokens.now
 
 abbrev pub variables_of : Variables → spec.Variables
 variables_of variables.Any = spec.Any

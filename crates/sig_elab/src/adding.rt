@@ -2,10 +2,11 @@
 ghost use Rattle.std.specs.Prelude.{◌≡◌, ◌++◌, ◌∷◌, [], IsTrue, IfOk};
 ghost use Rattle.sig_elab.specs.Bodies.{added};
 ghost use Rattle.sig_elab.specs.Environments.{is_new_type, is_new_value, the_type, the_value};
-ghost use Rattle.sig_elab.specs.Sources.{text_at};
+ghost use Rattle.elab_types.specs.Sources.{text_at};
 ghost use Rattle.sig_elab.specs.TypeDescriptions.{plain_type};
 ghost use Rattle.sig_elab.specs.Values.{closed_value};
-ghost use Rattle.sig_elab.specs.Views.{GivesBody, site_of, state_of, texts};
+ghost use Rattle.sig_elab.specs.Views.{GivesBody, site_of, state_of};
+ghost use Rattle.elab_types.specs.Views.{texts};
 ghost use Rattle.type_core.specs.Schemes.{closed};
 
 use crate::body::Body;

@@ -2,11 +2,11 @@
 ghost use Rattle.std.specs.Prelude.{◌≡◌, ◌++◌, ◌∷◌, [], ℕ, List, IfOk, IsTrue, slice_get, take};
 ghost use Rattle.std.specs.Option.{option_copied};
 ghost use Rattle.sig_elab.specs.Environments.{is_new_type, is_new_value, is_type, is_value, type_in, the_type, the_value, type_entry, value_entry, value_in};
-ghost use Rattle.sig_elab.specs.Finding.{place_of};
-ghost use Rattle.sig_elab.specs.Places.{place_at};
+ghost use Rattle.elab_types.specs.Finding.{place_of};
+ghost use Rattle.elab_types.specs.Places.{place_at};
 
 use crate::entry::{Entry, TypeEntry, ValueEntry};
-use crate::places::Places;
+use elab_types::Places;
 use sig_base::{List, NoMemory};
 use std::alloc::Global;
 

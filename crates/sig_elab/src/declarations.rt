@@ -6,16 +6,15 @@ ghost use Rattle.sig_elab.specs.Files.{all_bound, all_declared, bound, declared,
 ghost use Rattle.sig_elab.specs.Outcome.{Gives};
 ghost use Rattle.sig_elab.specs.Specifications.{binding_of};
 ghost use Rattle.sig_elab.specs.Totals.{AreTotals};
-ghost use Rattle.sig_elab.specs.Views.{texts};
+ghost use Rattle.elab_types.specs.Views.{texts};
 
 use crate::draft::Draft;
 use crate::entry::{Entry, UnitEntry};
-use crate::places::Places;
 use crate::refusal::{ElabRefusal, Why};
 use crate::site::Site;
-use crate::source::Source;
 use crate::specifications::elaborate;
 use crate::units::Units;
+use elab_types::{Places, Source};
 use sig_base::Text;
 use sig_parser::{Bind, TopDec};
 use std::alloc::Global;

@@ -9,7 +9,7 @@ ghost use Rattle.sig_elab.specs.Files.{elaborated};
 ghost use Rattle.sig_elab.specs.Library.{empty_basis, library};
 ghost use Rattle.sig_elab.specs.Outcome.{Agrees};
 ghost use Rattle.sig_elab.specs.Soundness.{IsSound};
-ghost use Rattle.sig_elab.specs.Sources.{AreWithin, texts_of};
+ghost use Rattle.elab_types.specs.Sources.{texts_of};
 ghost use Rattle.sig_elab.specs.Totals.{AreTotals};
 
 use crate::declarations::declare_all;
@@ -18,14 +18,13 @@ use crate::initial::initial_environment;
 use crate::listing::{all_members, all_names, all_tycons, all_units};
 use crate::progress::Progress;
 use crate::refusal::ElabRefusal;
-use crate::source::Source;
-use crate::texts::first_tokens;
 use crate::totals::Totals;
 use crate::units::Units;
 use elab_env::NameTable;
+use elab_types::{Source, first_tokens, tokens_within};
 use sig_base::NoMemory;
 use sig_parser::SourceFile;
-use sml_lexer::{Token, spans_inside};
+use sml_lexer::Token;
 use std::alloc::Global;
 use std::marker::Model;
 use type_core::Library;
@@ -57,16 +56,6 @@ impl Model for Elab {
     ghost view = { λ e. record { units = e.units.entries.items; state = state_of e.progress } };
 
     ghost invariant = { λ e. AreTotals e.totals (record { units = e.units.entries.items; state = state_of e.progress }) × IsSound (record { units = e.units.entries.items; state = state_of e.progress }) };
-}
-
-// Tokens of a text stand within it.
-fn tokens_within(bytes: &[u8], tokens: &[Token])
-    requires tokens { tokens_of bytes.now tokens.now }
-    ensures within { AreWithin bytes.now tokens.now }
-{
-    spans_inside();
-    let _ = bytes;
-    let _ = tokens;
 }
 
 // How far a file comes.

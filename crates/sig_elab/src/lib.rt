@@ -7,7 +7,6 @@
 #![tactic(auto)]
 
 mod adding;
-mod arrows;
 mod body;
 mod constructors;
 mod copying;
@@ -21,21 +20,17 @@ mod family;
 mod finding;
 mod found;
 mod initial;
-mod labels;
 mod limits;
 mod listing;
 mod naming;
 mod parameters;
 mod place;
-mod places;
 mod progress;
 mod refusal;
 mod replicas;
 mod scope;
 mod site;
-mod source;
 mod specifications;
-mod texts;
 mod totals;
 mod type_descriptions;
 mod typing;
@@ -48,8 +43,3 @@ pub use elab::Elab;
 pub use entry::{Entry, TypeEntry, UnitEntry, ValueEntry};
 pub use progress::Progress;
 pub use refusal::{ElabRefusal, Why};
-
-#[cfg(test)]
-mod equality_tests;
-#[cfg(test)]
-mod tests;

@@ -3,11 +3,10 @@ ghost use Rattle.std.specs.Prelude.{◌≡◌, [], IfOk, length};
 ghost use Rattle.sig_elab.specs.Outcome.{Gives};
 ghost use Rattle.sig_elab.specs.Parameters as spec;
 ghost use Rattle.sig_elab.specs.Parameters.{marked, numbered_from, parameters_checked, variables_at};
-ghost use Rattle.sig_elab.specs.Views.{texts};
+ghost use Rattle.elab_types.specs.Views.{texts};
 
-use crate::places::Places;
 use crate::refusal::{ElabRefusal, Why};
-use crate::source::Source;
+use elab_types::{Places, Source};
 use sig_base::{List, NoMemory};
 use std::alloc::Global;
 use type_core::{NameId, Ty, VarId};

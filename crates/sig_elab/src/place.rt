@@ -4,8 +4,8 @@ ghost use Rattle.sig_elab.specs.InitialEnvironment.{initial_environment};
 
 use crate::entry::Entry;
 use crate::scope::Scope;
-use crate::source::Source;
 use crate::variables::Variables;
+use elab_types::Source;
 
 /// Where a type expression stands: the file, the first token of the whole expression, the variables that
 /// may stand in it, the body so far, and the initial environment.

@@ -17,7 +17,7 @@ use crate::found::Found;
 use crate::progress::Progress;
 use crate::refusal::{ElabRefusal, Why};
 use crate::site::Site;
-use crate::texts::is_qualified;
+use elab_types::is_qualified;
 use sig_base::{List, NoMemory, Text};
 use std::alloc::Global;
 

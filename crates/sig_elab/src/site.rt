@@ -3,7 +3,7 @@ ghost use Rattle.std.specs.Prelude.{◌≡◌};
 ghost use Rattle.sig_elab.specs.InitialEnvironment.{initial_environment};
 
 use crate::entry::Entry;
-use crate::source::Source;
+use elab_types::Source;
 
 /// Where a body stands: the file, the path of the body, and the initial environment.
 #[derive(Clone, Copy)]

@@ -3,10 +3,11 @@ ghost use Rattle.std.specs.Prelude.{◌≡◌, ◌++◌, ◌∷◌, [], IfOk, ta
 ghost use Rattle.sig_elab.specs.declared.entry.Entry.{Entry as AnEntry};
 ghost use Rattle.sig_elab.specs.Bodies.{in_turn};
 ghost use Rattle.sig_elab.specs.Outcome.{GivesWith};
-ghost use Rattle.sig_elab.specs.Sources.{text_at};
+ghost use Rattle.elab_types.specs.Sources.{text_at};
 ghost use Rattle.sig_elab.specs.TypeDescriptions as spec;
 ghost use Rattle.sig_elab.specs.TypeDescriptions.{type_described, types_described};
-ghost use Rattle.sig_elab.specs.Views.{GivesBody, site_of, state_of, texts};
+ghost use Rattle.sig_elab.specs.Views.{GivesBody, site_of, state_of};
+ghost use Rattle.elab_types.specs.Views.{texts};
 
 use crate::adding::add_plain;
 use crate::body::Body;

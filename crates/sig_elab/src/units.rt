@@ -1,11 +1,12 @@
 // Top identifiers.
 ghost use Rattle.std.specs.Prelude.{◌≡◌, ◌≤◌, ◌<◌, ◌+◌, ◌++◌, ◌∷◌, [], not, IfOk, OnOk, OnErr, length, take};
 ghost use Rattle.sig_elab.specs.Files.{is_new_unit};
-ghost use Rattle.sig_elab.specs.Places.{ArePlaced, place_at};
-ghost use Rattle.sig_elab.specs.declared.places.Places.{Places as ThePlaces};
+ghost use Rattle.sig_elab.specs.Places.{ArePlaced};
+ghost use Rattle.elab_types.specs.Places.{place_at};
+ghost use Rattle.elab_types.specs.declared.places.Places.{Places as ThePlaces};
 
 use crate::entry::UnitEntry;
-use crate::places::Places;
+use elab_types::Places;
 use sig_base::NoMemory;
 use std::alloc::Global;
 

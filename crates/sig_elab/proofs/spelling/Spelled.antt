@@ -1,5 +1,5 @@
 -- The identifiers of a file's tree are spelled as the grammar has them. A token is its number in the file, and `texts` are the texts of all tokens of the file.
-use Rattle.std.specs.Prelude.{ℕ, ◌≤◌, List, [], ◌∷◌, Option, Some, None, ⊤, length}
+use Rattle.std.specs.Prelude.{ℕ, List, [], ◌∷◌, Option, Some, None, ⊤}
 use Rattle.std.specs.List.{All}
 use Rattle.sig_base.specs.Identifiers.{IsAlphanumeric}
 use Rattle.sig_parser.specs.declared.tree.Bind.{Bind}
@@ -16,13 +16,10 @@ use Rattle.sig_parser.specs.declared.tree.TopDec.TheVariants.{Signature as signa
 use Rattle.sig_parser.specs.declared.tree.TypeDesc.{TypeDesc}
 use Rattle.sig_parser.specs.declared.tree.ValDesc.{ValDesc}
 use Rattle.sig_parser.specs.declared.tree.WherePart.{WherePart}
-use Rattle.ty_parser.specs.declared.tree.FieldExp.{FieldExp}
-use Rattle.ty_parser.specs.declared.tree.TyExp.{TyExp}
-use Rattle.ty_parser.specs.declared.tree.TyExp.TheVariants as ty
 use Rattle.ty_parser.specs.declared.tree.TypeAt.{TypeAt}
 use Rattle.type_core.specs.Paths.{IsMemberIdentifier, IsShort, IsTypeIdentifier}
-use Rattle.type_core.specs.ValidLibrary.{IsLabel}
-use Rattle.sig_elab.specs.Sources.{text_at}
+use Rattle.elab_types.specs.Sources.{text_at}
+use Rattle.elab_types.specs.Spelling.{IsSpelledType}
 
 -- the token can name a signature or a structure: an alphanumeric identifier of at most 255 bytes
 abbrev pub NamesUnit : List (List ℕ) → ℕ → Type 0
@@ -35,25 +32,6 @@ NamesType texts token = IsTypeIdentifier (text_at texts token) × IsShort (text_
 -- the token can name a value, a constructor or an exception: an identifier or `=`, of at most 255 bytes
 abbrev pub NamesValue : List (List ℕ) → ℕ → Type 0
 NamesValue texts token = IsMemberIdentifier (text_at texts token) × IsShort (text_at texts token)
-
-mutual
-  -- a type expression is spelled as the grammar has it: each label is one, each tuple has at least two parts, and each application at least one constructor
-  pub data IsSpelledType (texts : List (List ℕ)) : TyExp → Type 0 where
-    variable : {token : ℕ} → IsSpelledType texts (ty.Var token)
-    fields : {fields : List FieldExp} → AreSpelledFields texts fields → IsSpelledType texts (ty.Fields fields)
-    tuple : {parts : List TyExp} → 2 ≤ length parts → AreSpelledTypes texts parts → IsSpelledType texts (ty.Tuple parts)
-    arrows : {sides : List TyExp} → AreSpelledTypes texts sides → IsSpelledType texts (ty.Arrows sides)
-    application : {arguments : List TyExp} {constructors : List ℕ} → AreSpelledTypes texts arguments → 1 ≤ length constructors → IsSpelledType texts (ty.Apply arguments constructors)
-
-  -- each of the type expressions is spelled so
-  pub data AreSpelledTypes (texts : List (List ℕ)) : List TyExp → Type 0 where
-    no_types : AreSpelledTypes texts []
-    more_types : {e : TyExp} {es : List TyExp} → IsSpelledType texts e → AreSpelledTypes texts es → AreSpelledTypes texts (e ∷ es)
-
-  -- each of the fields has a label that is one, and its type is spelled so
-  pub data AreSpelledFields (texts : List (List ℕ)) : List FieldExp → Type 0 where
-    no_fields : AreSpelledFields texts []
-    more_fields : {field : FieldExp} {fields : List FieldExp} → IsLabel (text_at texts field.label) → IsSpelledType texts field.ty → AreSpelledFields texts fields → AreSpelledFields texts (field ∷ fields)
 
 -- where a type expression is given, it is spelled so
 abbrev pub IsSpelledIfGiven : List (List ℕ) → Option TypeAt → Type 0

@@ -18,14 +18,14 @@ use Rattle.sig_elab.specs.declared.entry.TypeEntry.{TypeEntry}
 use Rattle.sig_elab.specs.declared.entry.ValueEntry.{ValueEntry}
 use Rattle.sig_elab.specs.Bodies.{Site, added}
 use Rattle.sig_elab.specs.Environments.{Environment, is_new_type, is_new_value, the_type, the_value, type_at, value_at}
-use Rattle.sig_elab.specs.Finding.{none_of}
+use Rattle.elab_types.specs.Finding.{none_of}
 use Rattle.sig_elab.specs.Soundness.{AreSoundNames, IsSoundEntry, IsSoundName, IsSoundTycon, IsSoundValue, SoundStep}
 use Rattle.sig_elab.specs.States.{State, entry_weight, weighed, within}
 use Rattle.sig_elab.proofs.valid.Found.{out_type, out_value}
-use Rattle.sig_elab.proofs.valid.Lists.{distinct_more, other_text}
+use Rattle.elab_types.proofs.Lists.{distinct_more, other_text}
 use Rattle.sig_elab.proofs.valid.Made.{name_sound}
 use Rattle.sig_elab.proofs.valid.Names.{names_under, names_with, still_entries, takes_new}
-use Rattle.sig_elab.proofs.valid.Outcomes.{checked_parts, ok_is, then_parts}
+use Rattle.elab_types.proofs.Outcomes.{checked_parts, ok_is, then_parts}
 
 -- ---- the paths of entries
 abbrev pub tycon_step : List ℕ → Entry-F Entry → List (List ℕ)

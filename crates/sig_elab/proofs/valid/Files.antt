@@ -20,16 +20,17 @@ use Rattle.sig_elab.specs.Bodies.{Site, Specified}
 use Rattle.sig_elab.specs.Environments.{Environment}
 use Rattle.sig_elab.specs.Files.{all_bound, all_declared, bound, declared, elaborated, identifiers_checked, is_new_unit, library_limited, normal_sum, structures_declared}
 use Rattle.sig_elab.specs.Library.{Basis, empty_basis, library}
-use Rattle.sig_elab.specs.Outcome.{Outcome, and_then}
+use Rattle.sig_elab.specs.Outcome.{Outcome}
+use Rattle.elab_types.specs.Outcome.{and_then}
 use Rattle.sig_elab.specs.Soundness.{AreSoundNames, IsSound, IsSoundUnit, member_paths, tycon_paths}
-use Rattle.sig_elab.specs.Sources.{text_at}
+use Rattle.elab_types.specs.Sources.{text_at}
 use Rattle.sig_elab.specs.Specifications.{Base, Signature, base_step, bind_step, binding_of, signature_of, signature_step, spec_step}
 use Rattle.sig_elab.proofs.spelling.Spelled.{AreSpelledBindings, IsSpelledDeclaration, IsSpelledFile, IsSpelledSignature, more_bindings, no_bindings}
 use Rattle.sig_elab.specs.States.{State, weighed}
 use Rattle.sig_elab.proofs.valid.Body.{IsSoundBody, Outside}
-use Rattle.sig_elab.proofs.valid.Lists.{distinct_more, no_pairs, other_texts, unmapped}
+use Rattle.elab_types.proofs.Lists.{distinct_more, no_pairs, other_texts, unmapped}
 use Rattle.sig_elab.proofs.valid.Names.{still_units}
-use Rattle.sig_elab.proofs.valid.Outcomes.{checked_parts, no_failure, ok_is, then_parts}
+use Rattle.elab_types.proofs.Outcomes.{checked_parts, no_failure, ok_is, then_parts}
 use Rattle.sig_elab.proofs.valid.Specs.{signature_kept}
 use Rattle.sig_elab.proofs.valid.Tycons.{Grows}
 use Rattle.sig_elab.proofs.valid.Units.{member_paths_more, members_elsewhere, tycon_paths_more, tycons_elsewhere, with_unit}

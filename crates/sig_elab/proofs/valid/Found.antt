@@ -18,9 +18,10 @@ use Rattle.sig_elab.specs.declared.entry.TypeEntry.{TypeEntry}
 use Rattle.sig_elab.specs.declared.entry.ValueEntry.{ValueEntry}
 use Rattle.sig_elab.specs.Environments.{Environment, the_type, the_value, type_at, type_in, type_of, value_at, value_in, value_of, values_in}
 use Rattle.sig_elab.specs.InitialEnvironment.{base_type, base_types, unary_type, base_constructors, initial_environment, unary_constructors, unary_types, unit_type}
-use Rattle.sig_elab.specs.Soundness.{IsSoundEntry, IsSoundFunction, IsSoundValue, SoundStep}
+use Rattle.sig_elab.specs.Soundness.{IsSoundEntry, IsSoundValue, SoundStep}
+use Rattle.elab_types.specs.Soundness.{IsSoundFunction}
 use Rattle.sig_elab.specs.Types.{found_type}
-use Rattle.sig_elab.proofs.valid.Lists.{all_parts, no_some}
+use Rattle.elab_types.proofs.Lists.{all_parts, no_some}
 use Rattle.sig_elab.proofs.valid.Made.{name_sound}
 use Rattle.sig_elab.proofs.valid.Names.{still_function}
 

@@ -29,8 +29,8 @@ use Rattle.sig_elab.specs.declared.entry.ValueEntry.{ValueEntry}
 use Rattle.sig_elab.specs.Environments.{the_type}
 use Rattle.sig_elab.specs.InitialEnvironment.{alpha, arrow, base_constructors, base_types, constant, constructor, initial_environment, pair, unary, unary_constructors, unary_types}
 use Rattle.sig_elab.proofs.valid.Found.{HasValue, ValueStep, out_type, out_value}
-use Rattle.sig_elab.proofs.valid.Lists.{unlike}
-use Rattle.sig_elab.proofs.valid.Made.{IsMade, made_con, made_tup, made_var, sound_arrow}
+use Rattle.elab_types.proofs.Lists.{unlike}
+use Rattle.elab_types.proofs.Made.{IsMade, made_con, made_tup, made_var, sound_arrow}
 use Rattle.sig_elab.proofs.valid.Values.{IsClosable}
 
 -- ---- schemes

@@ -20,7 +20,7 @@ use Rattle.sig_elab.specs.declared.entry.ValueEntry.{ValueEntry}
 use Rattle.sig_elab.specs.Library.{Basis, library, unit_members, unit_of, unit_tycons}
 use Rattle.sig_elab.specs.Soundness.{IsSound, IsSoundName, IsSoundTycon, IsSoundUnit, IsSoundValue, tycon_paths}
 use Rattle.sig_elab.specs.States.{member_of, tycon_of, within}
-use Rattle.sig_elab.proofs.valid.Lists.{all_in_lists, all_pass, no_pairs, none_pass, unmapped}
+use Rattle.elab_types.proofs.Lists.{all_in_lists, all_pass, no_pairs, none_pass, unmapped}
 use Rattle.sig_elab.proofs.valid.Units.{members_so, tycons_so}
 
 -- ---- lists

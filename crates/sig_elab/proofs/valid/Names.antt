@@ -20,8 +20,9 @@ use Rattle.sig_elab.specs.declared.entry.TypeEntry.{TypeEntry}
 use Rattle.sig_elab.specs.declared.entry.UnitEntry.{UnitEntry}
 use Rattle.sig_elab.specs.declared.entry.ValueEntry.{ValueEntry}
 use Rattle.sig_elab.specs.Equality.{with_choice}
-use Rattle.sig_elab.specs.Soundness.{AreSoundNames, IsSoundEntry, IsSoundFunction, IsSoundName, IsSoundScheme, IsSoundTycon, IsSoundType, IsSoundUnit, IsSoundValue, SoundStep}
-use Rattle.sig_elab.proofs.valid.Lists.{distinct_more}
+use Rattle.sig_elab.specs.Soundness.{AreSoundNames, IsSoundEntry, IsSoundName, IsSoundScheme, IsSoundTycon, IsSoundUnit, IsSoundValue, SoundStep}
+use Rattle.elab_types.specs.Soundness.{IsSoundFunction, IsSoundType}
+use Rattle.elab_types.proofs.Lists.{distinct_more}
 
 -- ---- more names
 pub keeps_all : (names : List TypeName) → KeepsNames names names

@@ -1,30 +1,11 @@
--- The parts of an outcome that is no failure.
-use Rattle.std.proofs.Common.{◌≡◌, ℕ, Bool, true, false, List, [], ◌∷◌, Option, Some, None, Ok, Err, refl, subst}
+-- What phrases in turn keep.
+use Rattle.std.proofs.Common.{◌≡◌, List, [], ◌∷◌, Ok, subst}
 use Rattle.std.proofs.lemmas.List.Elements.{All-head, All-tail}
 use Rattle.std.specs.List.{All}
-use Rattle.sig_elab.specs.declared.refusal.Why.{Why}
+use Rattle.elab_types.proofs.Outcomes.{ok_is, then_parts}
 use Rattle.sig_elab.specs.Bodies.{Site, Specified, in_turn}
 use Rattle.sig_elab.specs.Environments.{Environment}
-use Rattle.sig_elab.specs.Outcome.{Failure, Outcome, and_then, checked, required}
 use Rattle.sig_elab.specs.States.{State}
-
-pub ok_is : {A : Type 0} (a b : A) → let o : Outcome A = Ok a in o ≡ Ok b → a ≡ b
-ok_is a b e = cc
-
-pub no_failure : {A : Type 0} (f : Failure) (a : A) → let o : Outcome A = Err f in o ≡ Ok a → ⊥
-no_failure f a e = cc
-
-pub then_parts : {A B : Type 0} (o : Outcome A) (next : A → Outcome B) (b : B) → and_then o next ≡ Ok b → (a : A) × (o ≡ Ok a) × (next a ≡ Ok b)
-then_parts (Ok a) next b e = (a, refl, e)
-then_parts (Err f) next b e = absurd (no_failure f b e)
-
-pub checked_parts : {A : Type 0} (test : Bool) (why : Why) (token : ℕ) (rest : Outcome A) (a : A) → checked test why token rest ≡ Ok a → (test ≡ true) × (rest ≡ Ok a)
-checked_parts true why token rest a e = (refl, e)
-checked_parts false why token rest a e = absurd (no_failure _ a e)
-
-pub required_parts : {A B : Type 0} (o : Option A) (why : Why) (token : ℕ) (next : A → Outcome B) (b : B) → required o why token next ≡ Ok b → (a : A) × (o ≡ Some a) × (next a ≡ Ok b)
-required_parts None why token next b e = absurd (no_failure _ b e)
-required_parts (Some a) why token next b e = (a, refl, e)
 
 -- what each phrase keeps, phrases in turn keep
 pub kept_in_turn : {A : Type 0} (Spelled : A → Type 0) (Keeps : Environment → State → Type 0) (step : A → Specified) (site : Site)

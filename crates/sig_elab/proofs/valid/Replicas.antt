@@ -9,17 +9,19 @@ use Rattle.sig_elab.specs.declared.entry.ValueEntry.{ValueEntry}
 use Rattle.sig_elab.specs.Bodies.{Described, Site, added, in_turn}
 use Rattle.sig_elab.specs.Environments.{Environment, is_new_type, is_new_value, the_type, the_value, type_in, values_in}
 use Rattle.sig_elab.specs.InitialEnvironment.{initial_environment}
-use Rattle.sig_elab.specs.Outcome.{and_then}
+use Rattle.elab_types.specs.Outcome.{and_then}
 use Rattle.sig_elab.specs.Replications.{Found, found_datatype, found_in, replica, replica_described, value_copied}
-use Rattle.sig_elab.specs.Soundness.{IsSoundEntry, IsSoundFunction, IsSoundValue}
-use Rattle.sig_elab.specs.Sources.{is_qualified, text_at}
+use Rattle.sig_elab.specs.Soundness.{IsSoundEntry, IsSoundValue}
+use Rattle.elab_types.specs.Soundness.{IsSoundFunction}
+use Rattle.elab_types.specs.Sources.{is_qualified, text_at}
 use Rattle.sig_elab.proofs.spelling.Spelled.{NamesType}
 use Rattle.sig_elab.specs.States.{State}
 use Rattle.sig_elab.proofs.valid.Body.{IsSoundBody, Outside, added_parts, initial_kept, type_pushed, value_pushed}
 use Rattle.sig_elab.proofs.valid.Found.{HasValue, first_or, function_in, have_functions, have_values, initial_functions, values_found}
 use Rattle.sig_elab.proofs.valid.InitialValues.{initial_values}
-use Rattle.sig_elab.proofs.valid.Lists.{no_some}
-use Rattle.sig_elab.proofs.valid.Outcomes.{checked_parts, kept_in_turn, required_parts, then_parts}
+use Rattle.elab_types.proofs.Lists.{no_some}
+use Rattle.elab_types.proofs.Outcomes.{checked_parts, required_parts, then_parts}
+use Rattle.sig_elab.proofs.valid.Outcomes.{kept_in_turn}
 use Rattle.sig_elab.proofs.valid.Values.{Stays}
 
 -- what was found is sound

@@ -30,7 +30,7 @@ use Rattle.sig_elab.specs.TypeDescriptions.{types_described}
 use Rattle.sig_elab.specs.Values.{values_described}
 use Rattle.sig_elab.proofs.valid.Body.{IsSoundBody, Outside}
 use Rattle.sig_elab.proofs.valid.Names.{keeps_all, keeps_then}
-use Rattle.sig_elab.proofs.valid.Outcomes.{no_failure, ok_is, then_parts}
+use Rattle.elab_types.proofs.Outcomes.{no_failure, ok_is, then_parts}
 use Rattle.sig_elab.proofs.valid.Replicas.{replica_kept}
 use Rattle.sig_elab.proofs.valid.Tycons.{Grows, datatypes_kept, types_kept}
 use Rattle.sig_elab.proofs.valid.Values.{Stays, exceptions_kept, values_kept}

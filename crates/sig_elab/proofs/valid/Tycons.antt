@@ -25,17 +25,20 @@ use Rattle.sig_elab.specs.Constructors.{constructors_described}
 use Rattle.sig_elab.specs.Datatypes.{datatype_entry, datatype_family, datatype_head, datatype_heads, datatypes_described, group_constructed, identifiers, settled}
 use Rattle.sig_elab.specs.Environments.{Environment, is_new_type, the_type}
 use Rattle.sig_elab.specs.Equality.{greatest, with_choice}
-use Rattle.sig_elab.specs.Outcome.{Outcome, and_then}
+use Rattle.sig_elab.specs.Outcome.{Outcome}
+use Rattle.elab_types.specs.Outcome.{and_then}
 use Rattle.sig_elab.specs.Parameters.{parameters_checked, variables_at}
-use Rattle.sig_elab.specs.Soundness.{IsSoundEntry, IsSoundFunction}
-use Rattle.sig_elab.specs.Sources.{text_at, variable}
+use Rattle.sig_elab.specs.Soundness.{IsSoundEntry}
+use Rattle.elab_types.specs.Soundness.{IsSoundFunction}
+use Rattle.elab_types.specs.Sources.{text_at, variable}
 use Rattle.sig_elab.proofs.spelling.Spelled.{IsSpelledDatatype, IsSpelledIfGiven, IsSpelledTycon}
 use Rattle.sig_elab.specs.States.{State, with_name, within}
 use Rattle.sig_elab.specs.TypeDescriptions.{group_described, head, plain_type, right_place, right_side, type_described, types_described}
 use Rattle.sig_elab.specs.Types.{typed}
 use Rattle.sig_elab.proofs.valid.Body.{IsSoundBody, Outside, added_parts, initial_kept, named_pushed, type_pushed}
 use Rattle.sig_elab.proofs.valid.Names.{keeps_all, keeps_choice, keeps_then, names_chosen, still_entries, takes_new}
-use Rattle.sig_elab.proofs.valid.Outcomes.{checked_parts, kept_in_turn, ok_is, then_parts}
+use Rattle.elab_types.proofs.Outcomes.{checked_parts, ok_is, then_parts}
+use Rattle.sig_elab.proofs.valid.Outcomes.{kept_in_turn}
 use Rattle.sig_elab.proofs.valid.Typed.{typed_sound}
 use Rattle.sig_elab.proofs.valid.Values.{Stays, constructors_kept, marked_closable}
 

@@ -1,7 +1,7 @@
 -- The types that type expressions stand for.
 use Rattle.std.proofs.Common.{◌≡◌, ◌≢◌, ℕ, suc, ◌+◌, ◌<◌, ◌≤◌, ◌==◌, ◌&&◌, ◌||◌, Bool, true, false, true≢false, not, nat_le, if◌then◌else◌, List, [], ◌∷◌, ◌++◌, length, map, Ok, refl, sym, ap, ◌∙◌, subst, arith, rules, eqb-true, lt-ltb}
 use Rattle.std.proofs.lemmas.Bool.{and_from, leb-true}
-use Rattle.std.proofs.lemmas.List.Elements.{All-cons, All-head, All-nil, All-push, All-tail}
+use Rattle.std.proofs.lemmas.List.Elements.{All-cons, All-nil, All-push}
 use Rattle.std.proofs.lemmas.List.Quantifiers.{all_pairs_push}
 use Rattle.std.specs.List.{All}
 use Rattle.ty_parser.specs.declared.tree.FieldExp.{FieldExp}
@@ -25,16 +25,18 @@ use Rattle.type_core.specs.Variables.{occurs, place, same_variable}
 use Rattle.type_core.proofs.Trees.{height_var, size_var}
 use Rattle.elab_env.proofs.NameLists.{KeepsNames}
 use Rattle.sig_elab.specs.Soundness.{IsSoundEntry}
-use Rattle.sig_elab.specs.Sources.{is_qualified, text_at, variable}
-use Rattle.sig_elab.proofs.spelling.Spelled as spelling
-use Rattle.sig_elab.proofs.spelling.Spelled.{AreSpelledFields, AreSpelledTypes, IsSpelledType, more_fields, more_types, no_fields, no_types}
+use Rattle.elab_types.specs.Sources.{is_qualified, text_at, variable}
+use Rattle.elab_types.specs.Spelling as spelling
+use Rattle.elab_types.specs.Spelling.{AreSpelledFields, AreSpelledTypes, IsSpelledType, more_fields, more_types, no_fields, no_types}
 use Rattle.sig_elab.specs.States.{State}
-use Rattle.sig_elab.specs.Types.{Any, Parameters, Place, Variables, all_typed, arrows, arrows_from, constructed, constructed_all, constructed_on, field_typed, fields_typed, found_type, in_label_order, is_new_label, limited, record_of, typed, typed_field_step, typed_step, variable_of}
-use Rattle.sig_elab.proofs.valid.Fields.{AreApart, all_sorted, record_made, sorted_in_order}
+use Rattle.sig_elab.specs.Types.{Any, Parameters, Place, Variables, all_typed, constructed, constructed_all, constructed_on, field_typed, fields_typed, found_type, limited, typed, typed_field_step, typed_step, variable_of}
+use Rattle.elab_types.specs.Arrows.{arrows}
+use Rattle.elab_types.specs.Records.{in_label_order, is_new_label, record_of}
+use Rattle.elab_types.proofs.Fields.{AreApart, all_sorted, sorted_in_order}
+use Rattle.elab_types.proofs.Made.{IsMade, IsMadeField, arrows_made, made_applied, made_tup, made_var, record_made}
 use Rattle.sig_elab.proofs.valid.Found.{found_sound}
-use Rattle.sig_elab.proofs.valid.Lists.{other_texts}
-use Rattle.sig_elab.proofs.valid.Made.{IsMade, IsMadeField, made_applied, made_arrow, made_tup, made_var}
-use Rattle.sig_elab.proofs.valid.Outcomes.{checked_parts, ok_is, required_parts, then_parts}
+use Rattle.elab_types.proofs.Lists.{other_texts}
+use Rattle.elab_types.proofs.Outcomes.{checked_parts, ok_is, required_parts, then_parts}
 
 -- ---- by the outermost form
 typed_var : (token : ℕ) → typed (e.Var token) ≡ typed_step (Var token)
@@ -134,15 +136,6 @@ module _ (names : List TypeName) (base : KeepsNames initial_names names) (p : Pl
       let c = on_typed tokens a.0.0 a.0.1 r b.0 a.2 in
       (c.0, c.1 ∙ b.1)
 
-  -- ---- arrows
-  arrows_made : (side : Ty) (sides : List Ty) → All (IsMade names is) (side ∷ sides) → IsMade names is (arrows_from side sides)
-  arrows_made side [] h = All-head (IsMade names is) side [] h
-  arrows_made side (next ∷ sides) h = made_arrow names is side (arrows_from next sides) (All-head (IsMade names is) side (next ∷ sides) h) (arrows_made next sides (All-tail (IsMade names is) side (next ∷ sides) h))
-
-  all_arrows_made : (sides : List Ty) → All (IsMade names is) sides → IsMade names is (arrows sides)
-  all_arrows_made [] h = made_tup names is [] (λ e. absurd (omega (arith, e))) (All-nil _)
-  all_arrows_made (side ∷ sides) h = arrows_made side sides h
-
   -- ---- the parts
   abbrev Parts : List TyExp → State → List Ty × State → Type 0
   Parts es s r = All (IsMade names is) r.0 × (length r.0 ≡ length es) × (r.1 ≡ s)
@@ -171,7 +164,7 @@ module _ (names : List TypeName) (base : KeepsNames initial_names names) (p : Pl
   arrows_case sides s r ih h =
       let a = then_parts (all_typed (map typed sides) p s) _ r (sym (ap (λ f. f p s) (typed_arrows sides)) ∙ h) in
       let b = ih a.0 a.1 in
-      within (arrows a.0.0) s a.0.1 r (all_arrows_made a.0.0 b.0) b.2 a.2
+      within (arrows a.0.0) s a.0.1 r (arrows_made names is a.0.0 b.0) b.2 a.2
 
   apply_case : (arguments : List TyExp) (tokens : List ℕ) (s : State) (r : Ty × State) → 1 ≤ length tokens → ((q : List Ty × State) → all_typed (map typed arguments) p s ≡ Ok q → Parts arguments s q) → typed (e.Apply arguments tokens) p s ≡ Ok r → IsTyped names is r.0 × (r.1 ≡ s)
   apply_case arguments tokens s r one ih h =

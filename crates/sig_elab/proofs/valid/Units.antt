@@ -19,7 +19,7 @@ use Rattle.sig_elab.specs.Library.{Basis, entry_members, entry_tycons, library, 
 use Rattle.sig_elab.specs.Soundness.{IsSoundEntry, IsSoundTycon, IsSoundUnit, IsSoundValue, SoundStep, member_paths, tycon_paths}
 use Rattle.sig_elab.specs.States.{State, member_of, tycon_of, within}
 use Rattle.sig_elab.proofs.valid.Body.{IsElsewhere, paths_by, tycon_step, value_step}
-use Rattle.sig_elab.proofs.valid.Lists.{all_in_lists, concatenated_more}
+use Rattle.elab_types.proofs.Lists.{all_in_lists, concatenated_more}
 
 -- ---- an entry's type constructors and members
 abbrev tycons_by : List ℕ → Entry-F Entry → List Tycon

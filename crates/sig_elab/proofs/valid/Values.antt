@@ -25,15 +25,16 @@ use Rattle.sig_elab.specs.Constructors.{Family, argument_place, constructor_desc
 use Rattle.sig_elab.specs.Environments.{Environment, is_new_value, the_value}
 use Rattle.sig_elab.specs.Exceptions.{exceptions, exceptions_described}
 use Rattle.sig_elab.specs.Parameters.{marked, numbered_from}
-use Rattle.sig_elab.specs.Soundness.{IsSoundType}
-use Rattle.sig_elab.specs.Sources.{text_at}
+use Rattle.elab_types.specs.Soundness.{IsSoundType}
+use Rattle.elab_types.specs.Sources.{text_at}
 use Rattle.sig_elab.proofs.spelling.Spelled.{IsSpelledConstructor, IsSpelledIfGiven, IsSpelledValue}
 use Rattle.sig_elab.specs.States.{State}
 use Rattle.sig_elab.specs.Types.{limited, typed}
 use Rattle.sig_elab.specs.Values.{closed_value, value_described, value_place, values_described}
 use Rattle.sig_elab.proofs.valid.Body.{IsSoundBody, Outside, added_parts, initial_kept, value_pushed}
-use Rattle.sig_elab.proofs.valid.Made.{IsMade, made_con, made_var, sound_arrow}
-use Rattle.sig_elab.proofs.valid.Outcomes.{checked_parts, kept_in_turn, ok_is, then_parts}
+use Rattle.elab_types.proofs.Made.{IsMade, made_con, made_var, sound_arrow}
+use Rattle.elab_types.proofs.Outcomes.{checked_parts, ok_is, then_parts}
+use Rattle.sig_elab.proofs.valid.Outcomes.{kept_in_turn}
 use Rattle.sig_elab.proofs.valid.Renamed.{closed_sound}
 use Rattle.sig_elab.proofs.valid.Typed.{limited_parts, typed_sound}
 

@@ -1,7 +1,7 @@
 use Rattle.std.proofs.Common.{◌≡◌, ◌++◌, map, drop}
 use Rattle.sig_parser.specs.declared.tree.ConDesc.{ConDesc}
-use Rattle.sig_elab.specs.Sources.{text_at}
-use Rattle.sig_elab.specs.Views.{texts}
+use Rattle.elab_types.specs.Sources.{text_at}
+use Rattle.elab_types.specs.Views.{texts}
 use Rattle.sig_elab.proofs.datatypes.identifiers.Given as goal
 
 abbrev pub invariant-loop-constructor : goal.invariant-loop-constructor

@@ -2,7 +2,7 @@ use Rattle.std.proofs.Common.{List, map, refl}
 use Rattle.sig_parser.specs.declared.tree.Bind.{Bind}
 use Rattle.sig_elab.specs.Files.{all_bound, bound}
 use Rattle.sig_elab.specs.Specifications.{binding_of}
-use Rattle.sig_elab.specs.Views.{texts}
+use Rattle.elab_types.specs.Views.{texts}
 use Rattle.sig_elab.proofs.BasisTurns.{all_end, all_go_on}
 use Rattle.sig_elab.proofs.declarations.bind_all.Goals as goal
 

@@ -3,7 +3,7 @@ use Rattle.sig_elab.specs.Elaborators.{basis_of}
 use Rattle.sig_elab.specs.Files.{all_bound}
 use Rattle.sig_elab.specs.Specifications.{binding_of}
 use Rattle.sig_elab.specs.Totals.{AreTotals}
-use Rattle.sig_elab.specs.Views.{texts}
+use Rattle.elab_types.specs.Views.{texts}
 use Rattle.sig_elab.proofs.declarations.bind_all.Given as goal
 
 abbrev pub invariant-loop-bind : goal.invariant-loop-bind

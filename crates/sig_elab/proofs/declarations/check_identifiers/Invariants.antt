@@ -1,9 +1,9 @@
 use Rattle.std.proofs.Common.{◌≡◌, ◌++◌, ℕ, List, [], map, not, is_some, take, drop, bytes_eq}
 use Rattle.sig_elab.specs.Files.{identifiers_checked}
-use Rattle.sig_elab.specs.Finding.{none_of}
-use Rattle.sig_elab.specs.Places.{place_at}
+use Rattle.elab_types.specs.Finding.{none_of}
+use Rattle.elab_types.specs.Places.{place_at}
 use Rattle.sig_elab.specs.Specifications.{binding_of}
-use Rattle.sig_elab.specs.Views.{texts}
+use Rattle.elab_types.specs.Views.{texts}
 use Rattle.sig_elab.proofs.BasisTurns.{bound_text}
 use Rattle.sig_elab.proofs.declarations.check_identifiers.Given as goal
 

@@ -1,6 +1,6 @@
 use Rattle.std.proofs.Common.{refl}
 use Rattle.sig_elab.specs.Files.{all_declared, declared}
-use Rattle.sig_elab.specs.Views.{texts}
+use Rattle.elab_types.specs.Views.{texts}
 use Rattle.sig_elab.proofs.BasisTurns.{all_end, all_go_on}
 use Rattle.sig_elab.proofs.declarations.declare_all.Goals as goal
 

@@ -2,7 +2,7 @@ use Rattle.std.proofs.Common.{◌≡◌, drop}
 use Rattle.sig_elab.specs.Elaborators.{basis_of}
 use Rattle.sig_elab.specs.Files.{all_declared}
 use Rattle.sig_elab.specs.Totals.{AreTotals}
-use Rattle.sig_elab.specs.Views.{texts}
+use Rattle.elab_types.specs.Views.{texts}
 use Rattle.sig_elab.proofs.declarations.declare_all.Given as goal
 
 abbrev pub invariant-loop-dec : goal.invariant-loop-dec

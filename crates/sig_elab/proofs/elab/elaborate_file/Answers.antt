@@ -1,7 +1,7 @@
 use Rattle.std.proofs.Common.{subst}
 use Rattle.sig_elab.specs.Elaborators.{GivesBasis, basis_of}
 use Rattle.sig_elab.specs.Files.{all_declared}
-use Rattle.sig_elab.specs.Sources.{texts_of}
+use Rattle.elab_types.specs.Sources.{texts_of}
 use Rattle.sig_elab.proofs.AcceptedFiles.{accepted_sound}
 use Rattle.sig_elab.proofs.spelling.Files.{spelled}
 use Rattle.sig_elab.proofs.elab.elaborate_file.Goals as goal

@@ -1,9 +1,9 @@
 use Rattle.std.proofs.Common.{◌≡◌, ℕ, List, [], map, not, is_some, take, drop, bytes_eq}
-use Rattle.sig_elab.specs.Finding.{none_of}
+use Rattle.elab_types.specs.Finding.{none_of}
 use Rattle.sig_elab.specs.Parameters.{parameters_checked}
-use Rattle.sig_elab.specs.Places.{place_at}
-use Rattle.sig_elab.specs.Sources.{text_at}
-use Rattle.sig_elab.specs.Views.{texts}
+use Rattle.elab_types.specs.Places.{place_at}
+use Rattle.elab_types.specs.Sources.{text_at}
+use Rattle.elab_types.specs.Views.{texts}
 use Rattle.sig_elab.proofs.parameters.check_parameters.Given as goal
 
 abbrev pub invariant-loop-token : goal.invariant-loop-token

@@ -1,6 +1,6 @@
 use Rattle.std.proofs.Common.{◌≡◌, ◌++◌, map, drop}
-use Rattle.sig_elab.specs.Sources.{variable}
-use Rattle.sig_elab.specs.Views.{texts}
+use Rattle.elab_types.specs.Sources.{variable}
+use Rattle.elab_types.specs.Views.{texts}
 use Rattle.sig_elab.proofs.parameters.variables_at.Given as goal
 
 abbrev pub invariant-loop-token : goal.invariant-loop-token

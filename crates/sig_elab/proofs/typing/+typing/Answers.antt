@@ -1,9 +1,10 @@
 use Rattle.std.proofs.Common.{not, bytes_eq, sym, ap, ◌∙◌}
 use Rattle.type_core.specs.declared.ty.Field.{Field}
-use Rattle.sig_elab.proofs.FirstPlaces.{placed_more}
+use Rattle.elab_types.proofs.FirstPlaces.{placed_more}
 use Rattle.sig_elab.proofs.Outcomes.{gives_same, handed_on}
-use Rattle.sig_elab.specs.Finding.{place_of as first_place}
-use Rattle.sig_elab.proofs.Records.{fresh_label, fields_fail, fields_more, fields_twice, is_new_by}
+use Rattle.elab_types.specs.Finding.{place_of as first_place}
+use Rattle.elab_types.proofs.Fields.{fresh_label, is_new_by}
+use Rattle.sig_elab.proofs.Records.{fields_fail, fields_more, fields_twice}
 use Rattle.sig_elab.proofs.TypedLevels.{arrows_are, fields_are, tuple_is}
 use Rattle.sig_elab.proofs.typing.+typing.Goals as goal
 

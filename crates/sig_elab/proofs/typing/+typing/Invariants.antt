@@ -1,8 +1,8 @@
 use Rattle.std.proofs.Common.{◌≡◌, ◌++◌, [], ℕ, List, map, drop, bytes_eq, Ok}
 use Rattle.type_core.specs.declared.ty.Field.{Field}
-use Rattle.sig_elab.specs.Finding.{place_of as first_place}
-use Rattle.sig_elab.specs.Outcome.{and_then}
-use Rattle.sig_elab.specs.Places.{place_at}
+use Rattle.elab_types.specs.Finding.{place_of as first_place}
+use Rattle.elab_types.specs.Outcome.{and_then}
+use Rattle.elab_types.specs.Places.{place_at}
 use Rattle.sig_elab.specs.Types.{all_typed, field_typed, fields_typed, typed}
 use Rattle.sig_elab.specs.Views.{place_of, state_of}
 use Rattle.sig_elab.proofs.typing.+typing.Given as goal

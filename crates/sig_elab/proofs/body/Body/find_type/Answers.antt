@@ -2,7 +2,7 @@ use Rattle.std.proofs.Common.{slice_get, sym, ap, ◌∙◌}
 use Rattle.sig_elab.specs.declared.entry.Entry.{out-Entry}
 use Rattle.sig_elab.specs.Environments.{type_entry, type_step}
 use Rattle.sig_elab.proofs.Bodies.{type_by_place}
-use Rattle.sig_elab.proofs.FirstPlaces.{given_at}
+use Rattle.elab_types.proofs.FirstPlaces.{given_at}
 use Rattle.sig_elab.proofs.body.Body.find_type.Goals as goal
 
 pub returns-in-None : goal.returns-in-None

@@ -1,6 +1,6 @@
 use Rattle.std.proofs.Common.{not, is_some, sym, ap, ◌∙◌}
 use Rattle.sig_elab.specs.Environments.{is_type}
-use Rattle.sig_elab.proofs.FirstPlaces.{is_none_by, none_by_place}
+use Rattle.elab_types.proofs.FirstPlaces.{is_none_by, none_by_place}
 use Rattle.sig_elab.proofs.body.Body.is_new_type.Goals as goal
 
 pub returns : goal.returns

@@ -1,6 +1,6 @@
 use Rattle.std.proofs.Common.{not, is_some, sym, ap, ◌∙◌}
 use Rattle.sig_elab.specs.Environments.{is_value}
-use Rattle.sig_elab.proofs.FirstPlaces.{is_none_by, none_by_place}
+use Rattle.elab_types.proofs.FirstPlaces.{is_none_by, none_by_place}
 use Rattle.sig_elab.proofs.body.Body.is_new_value.Goals as goal
 
 pub returns : goal.returns
