@@ -9,22 +9,13 @@ use Rattle.std.proofs.lemmas.Option.{slice_get-get_or, slice_get_within}
 use Rattle.type_core.specs.declared.library.Library.{Library}
 use Rattle.type_core.specs.declared.member.Member.{Member}
 use Rattle.type_core.specs.declared.ty.Scheme.{Scheme}
-use Rattle.type_core.specs.declared.ty.Ty.{Ty}
-use Rattle.type_core.specs.NormalSize.{normal_size_of}
-use Rattle.type_core.specs.Renaming.{Renaming, field_renamed, renamed}
-use Rattle.type_core.specs.Schemes.{closed, numbered_among}
-use Rattle.type_core.specs.Types.{IsType}
 use Rattle.type_core.specs.ValidLibrary.{IsValidLibrary}
-use Rattle.type_core.specs.Variables.{by_first_occurrence}
-use Rattle.type_core.proofs.Closed.{closed_is_scheme}
-use Rattle.iso_axioms.proofs.Replaced.{keeps_types, renaming_replaces}
 use Rattle.iso_axioms.specs.SchemeEquality.{AreEqualIn}
 use Rattle.iso_normal.specs.declared.pair_tree.PairTree.{PairTree}
 use Rattle.search_core.specs.declared.answer.Mode.{Mode}
 use Rattle.search_core.specs.declared.answer.Hit.{Hit}
 use Rattle.search_core.specs.Report.{AreMembers}
-use Rattle.search_core.specs.Search.{AreHits, CanBeSearched, CanBeSearchedFor, HasPairing, IsDue, IsPairing, numbers_of, theory_of}
-use Rattle.search_core.proofs.OneMeasure.{size_as_renamed}
+use Rattle.search_core.specs.Search.{AreHits, CanBeSearched, HasPairing, IsDue, IsPairing, numbers_of, theory_of}
 
 -- a valid library can be searched
 pub can_be_searched : (library : Library) → IsValidLibrary library → CanBeSearched library
@@ -33,16 +24,6 @@ can_be_searched library valid = record {
   types = λ i d l. (valid.member_types i d l).over.is_type;
   few = omega (arith, valid.member_limit);
 }
-
--- the scheme of a type within the limit can be searched for
-pub can_be_searched_for : (t : Ty) → IsType t → normal_size_of t ≤ 8000 → CanBeSearchedFor (closed t)
-can_be_searched_for t is small =
-    let r : Renaming = numbered_among (by_first_occurrence t) in
-    record {
-      scheme = closed_is_scheme t;
-      type = keeps_types (renamed r) (field_renamed r) (renaming_replaces r) t is;
-      normal_limit = subst (λ n. n ≤ 8000) (sym (size_as_renamed r t)) small;
-    }
 
 -- a member that was read
 pub stands : (library : Library) (items : List Member) (i : ℕ) (d : Member) → items ≡ library.members → i < length items → slice_get library.members i ≡ Some (get_or items i d)

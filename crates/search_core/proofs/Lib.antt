@@ -1,3 +1,6 @@
+mod Flaws
+mod OneLoading
+mod Taking
 mod OneMeasure
 mod FewNodes
 mod OneMark

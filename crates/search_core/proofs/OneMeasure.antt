@@ -68,9 +68,6 @@ module _ (r : Renaming) where
         size = ap normal_size_of (renamed_arrow r a b) ∙ normal_size_arrow _ _ ∙ ap₂ ◌+◌ (ap₂ ◌*◌ q.count p.size) q.size ∙ sym (normal_size_arrow a b);
       })
 
-pub size_as_renamed : (r : Renaming) (t : Ty) → normal_size_of (renamed r t) ≡ normal_size_of t
-size_as_renamed r t = (measure_renamed r t).size
-
 -- products
 over_sum : (n x y z : ℕ) → n * (x + (y + 0)) + z ≡ n * x + (n * y + z)
 over_sum n x y z = omega (arith, mul-add n x (y + 0), mul-add n y 0, mul-zero n)
