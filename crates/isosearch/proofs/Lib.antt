@@ -1,13 +1,6 @@
 pub mod Answered
-pub mod Arrows
 pub mod Digits
 pub mod DueEnds
 pub mod DueOne
-pub mod Elaborated
-pub mod OneReading
-pub mod Places
-pub mod QueryTypes
-pub mod Refusing
 pub mod Reported
 pub mod Saying
-pub mod Sizes

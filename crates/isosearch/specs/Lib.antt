@@ -1,10 +1,4 @@
 pub mod Words
-pub mod Texts
-pub mod Types
-pub mod Measures
-pub mod Stages
-pub mod Library
-pub mod Query
 pub mod Lines
 pub mod Outcome
 pub mod Ending

@@ -4,10 +4,12 @@ use Rattle.std.specs.Io.KnownBytes.{Appends}
 use Rattle.sig_base.specs.Faults.{Rose}
 use Rattle.sig_base.specs.Writing.{AppendsPart}
 use Rattle.sml_lexer.specs.Places.{line_at, column_at}
-use Rattle.isosearch.specs.declared.fault.Fault.{Fault}
-use Rattle.isosearch.specs.declared.fault.Fault.TheVariants as fault
 use Rattle.sig_elab.specs.declared.refusal.Why.{Why}
 use Rattle.sig_elab.specs.declared.refusal.Why.TheVariants as why
+use Rattle.query_parser.specs.declared.refusal.QueryWhy.{QueryWhy}
+use Rattle.query_parser.specs.declared.refusal.QueryWhy.TheVariants as query
+use Rattle.search_core.specs.declared.refusals.Fault.{Fault}
+use Rattle.search_core.specs.declared.refusals.Fault.TheVariants as fault
 
 -- a line was added, or a part of it and the count of faults rose
 abbrev pub Says : Option (List ℕ) → Option (List ℕ) → ℕ → ℕ → List ℕ → Type 0
@@ -33,6 +35,10 @@ not_read_line file = file ++ codes ": cannot be read\n"
 abbrev pub too_long_line : List ℕ → List ℕ
 too_long_line file = file ++ codes ": longer than 4194304 bytes\n"
 
+-- this file is one too many
+abbrev pub too_many_line : List ℕ → List ℕ
+too_many_line file = file ++ codes ": more than 512 files\n"
+
 -- what is said of a condition of elaboration that fails
 abbrev pub why_text : Why → List ℕ
 why_text why.Unbound = codes "unbound identifier"
@@ -53,7 +59,7 @@ why_text why.TooManyMembers = codes "more than 100000 members"
 why_text why.LibraryTooLarge = codes "library is too large"
 why_text why.NotBuilt = codes "not built yet"
 
--- what is said of a fault
+-- what is said of a fault of a file
 abbrev pub fault_text : Fault → List ℕ
 fault_text fault.BadByte = codes "unexpected byte"
 fault_text fault.OpenComment = codes "comment is not closed"
@@ -61,7 +67,19 @@ fault_text fault.LongName = codes "name is longer than 255 bytes"
 fault_text fault.Syntax = codes "syntax error"
 fault_text fault.TooDeep = codes "nesting is too deep"
 fault_text (fault.Elab why) = why_text why
-fault_text fault.TooLarge = codes "query is too large"
+
+-- what is said of a query that is refused: the same as of a file, where a file can be refused so
+abbrev pub query_text : QueryWhy → List ℕ
+query_text query.BadByte = fault_text fault.BadByte
+query_text query.OpenComment = fault_text fault.OpenComment
+query_text query.LongName = fault_text fault.LongName
+query_text query.Syntax = fault_text fault.Syntax
+query_text query.TooDeep = fault_text fault.TooDeep
+query_text query.Unbound = why_text why.Unbound
+query_text query.WrongArity = why_text why.WrongArity
+query_text query.Duplicate = why_text why.Duplicate
+query_text query.TooLarge = codes "query is too large"
+query_text query.NormalTooLarge = why_text why.NormalTooLarge
 
 -- a refusal in a source of this name, at a line and a column
 abbrev pub refusal_at : List ℕ → ℕ → ℕ → List ℕ → List ℕ

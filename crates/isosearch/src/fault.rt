@@ -1,75 +1,22 @@
-// Why a text is refused.
+// What is said of files and queries that are refused.
 ghost use Rattle.std.specs.Prelude.{◌≡◌};
-ghost use Rattle.isosearch.specs.Lines.{fault_text, why_text as the_why_text};
-ghost use Rattle.isosearch.specs.Stages.{of_lexer};
-ghost use Rattle.isosearch.specs.declared.fault.SourceRefusal.TheVariants as refusal;
+ghost use Rattle.isosearch.specs.Lines.{fault_text as the_fault_text, query_text as the_query_text, why_text as the_why_text};
 
-use sig_base::NoMemory;
+use query_parser::QueryWhy;
+use search_core::Fault;
 use sig_elab::Why;
-use sml_lexer::LexRefusal;
 
-/// What is wrong with a file or a query, at a place that is told beside it.
-#[derive(Clone, Copy, Debug, PartialEq, Eq)]
-pub enum Fault {
-    /// No separator, comment or token begins there.
-    BadByte,
-    /// A comment begins there that isn't closed.
-    OpenComment,
-    /// A token begins there that has a part of more than 255 bytes.
-    LongName,
-    /// The tokens before it begin a phrase, and with the one there they don't.
-    Syntax,
-    /// A `(`, a `{` or a `sig` stands there, with 200 of them open before it.
-    TooDeep,
-    /// A condition of elaboration fails there.
-    Elab(Why),
-    /// The query has too many bytes or nodes.
-    TooLarge,
-}
-
-/// Why a text has no meaning.
-#[derive(Clone, Copy, Debug, PartialEq, Eq)]
-pub enum SourceRefusal {
-    /// This is wrong with it, at this byte.
-    Refused(Fault, u32),
-    NoMemory,
-}
-
-impl From<NoMemory> for SourceRefusal {
-    ghost from_gives = { λ _ r. r ≡ refusal.NoMemory };
-
-    fn from(_: NoMemory) -> SourceRefusal {
-        SourceRefusal::NoMemory
-    }
-}
-
-impl From<LexRefusal> for SourceRefusal {
-    ghost from_gives = { λ refusal r. r ≡ of_lexer refusal };
-
-    fn from(refusal: LexRefusal) -> SourceRefusal {
-        match refusal {
-            LexRefusal::BadByte(place) => SourceRefusal::Refused(Fault::BadByte, place),
-            LexRefusal::OpenComment(place) => SourceRefusal::Refused(Fault::OpenComment, place),
-            LexRefusal::LongName(place) => SourceRefusal::Refused(Fault::LongName, place),
-            LexRefusal::NoMemory => SourceRefusal::NoMemory,
-        }
-    }
-}
-
-impl Fault {
-    /// What is said of it on standard error.
-    pub fn text(self) -> &'static str
-        ensures { result.now ≡ fault_text self }
-    {
-        match self {
-            Fault::BadByte => "unexpected byte",
-            Fault::OpenComment => "comment is not closed",
-            Fault::LongName => "name is longer than 255 bytes",
-            Fault::Syntax => "syntax error",
-            Fault::TooDeep => "nesting is too deep",
-            Fault::Elab(why) => why_text(why),
-            Fault::TooLarge => "query is too large",
-        }
+/// What is said of a fault of a file.
+pub fn fault_text(fault: Fault) -> &'static str
+    ensures { result.now ≡ the_fault_text fault }
+{
+    match fault {
+        Fault::BadByte => "unexpected byte",
+        Fault::OpenComment => "comment is not closed",
+        Fault::LongName => "name is longer than 255 bytes",
+        Fault::Syntax => "syntax error",
+        Fault::TooDeep => "nesting is too deep",
+        Fault::Elab(why) => why_text(why),
     }
 }
 
@@ -94,5 +41,23 @@ fn why_text(why: Why) -> &'static str
         Why::TooManyMembers => "more than 100000 members",
         Why::LibraryTooLarge => "library is too large",
         Why::NotBuilt => "not built yet",
+    }
+}
+
+/// What is said of a query that is refused.
+pub fn query_text(why: QueryWhy) -> &'static str
+    ensures { result.now ≡ the_query_text why }
+{
+    match why {
+        QueryWhy::BadByte => fault_text(Fault::BadByte),
+        QueryWhy::OpenComment => fault_text(Fault::OpenComment),
+        QueryWhy::LongName => fault_text(Fault::LongName),
+        QueryWhy::Syntax => fault_text(Fault::Syntax),
+        QueryWhy::TooDeep => fault_text(Fault::TooDeep),
+        QueryWhy::Unbound => why_text(Why::Unbound),
+        QueryWhy::WrongArity => why_text(Why::WrongArity),
+        QueryWhy::Duplicate => why_text(Why::Duplicate),
+        QueryWhy::TooLarge => "query is too large",
+        QueryWhy::NormalTooLarge => why_text(Why::NormalTooLarge),
     }
 }

@@ -1,10 +1,12 @@
 // The lines for standard error. None of them takes memory.
 ghost use Rattle.std.specs.Prelude.{◌++◌, map};
 ghost use Rattle.std.specs.List.{concat};
-ghost use Rattle.isosearch.specs.Lines.{Says, fault_text, no_memory_line, not_read_line, not_written_line, query_name, refusal_at, too_long_line, usage_line};
+ghost use Rattle.isosearch.specs.Lines.{Says, fault_text as the_fault_text, no_memory_line, not_read_line, not_written_line, query_name, query_text as the_query_text, refusal_at, too_long_line, too_many_line, usage_line};
 
 use crate::decimal::Decimal;
-use crate::fault::Fault;
+use crate::fault::{fault_text, query_text};
+use query_parser::QueryWhy;
+use search_core::Fault;
 use sig_base::{Sink, write_all};
 use sml_lexer::LineCol;
 
@@ -66,6 +68,13 @@ pub fn too_long<E: Sink>(err: &mut E, file: &str)
     say_of(err, file, ": longer than 4194304 bytes\n");
 }
 
+/// A file is one too many.
+pub fn too_many<E: Sink>(err: &mut E, file: &str)
+    ensures { Says (E.written err.old) (E.written err.new) (E.faults err.old) (E.faults err.new) (too_many_line file.now) }
+{
+    say_of(err, file, ": more than 512 files\n");
+}
+
 // A source is refused at a line and a column.
 fn refusal<E: Sink>(err: &mut E, name: &str, at: LineCol, text: &str)
     ensures { Says (E.written err.old) (E.written err.new) (E.faults err.old) (E.faults err.new) (refusal_at name.now at.line at.col text.now) }
@@ -89,14 +98,14 @@ fn refusal<E: Sink>(err: &mut E, name: &str, at: LineCol, text: &str)
 
 /// This is wrong with a file.
 pub fn bad_file<E: Sink>(err: &mut E, file: &str, fault: Fault, at: LineCol)
-    ensures { Says (E.written err.old) (E.written err.new) (E.faults err.old) (E.faults err.new) (refusal_at file.now at.line at.col (fault_text fault)) }
+    ensures { Says (E.written err.old) (E.written err.new) (E.faults err.old) (E.faults err.new) (refusal_at file.now at.line at.col (the_fault_text fault)) }
 {
-    refusal(err, file, at, fault.text());
+    refusal(err, file, at, fault_text(fault));
 }
 
 /// This is wrong with the query.
-pub fn bad_query<E: Sink>(err: &mut E, fault: Fault, at: LineCol)
-    ensures { Says (E.written err.old) (E.written err.new) (E.faults err.old) (E.faults err.new) (refusal_at query_name at.line at.col (fault_text fault)) }
+pub fn bad_query<E: Sink>(err: &mut E, why: QueryWhy, at: LineCol)
+    ensures { Says (E.written err.old) (E.written err.new) (E.faults err.old) (E.faults err.new) (refusal_at query_name at.line at.col (the_query_text why)) }
 {
-    refusal(err, "query", at, fault.text());
+    refusal(err, "query", at, query_text(why));
 }

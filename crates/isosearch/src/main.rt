@@ -4,16 +4,10 @@
 mod decimal;
 mod fault;
 mod laws;
-mod library;
 mod lines;
-mod query;
-mod query_types;
 mod run;
-mod source;
-mod stages;
 #[cfg(test)]
 mod tests;
-mod texts;
 mod words;
 
 use crate::run::run;

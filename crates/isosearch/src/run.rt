@@ -1,27 +1,28 @@
 // The command, over any files and sinks.
-ghost use Rattle.std.specs.Prelude.{◌≡◌, ◌↔◌, ◌⊎◌, ◌≤◌, ℕ, List, Some, Ok, Err, map, string_bytes, IfOk, IfErr, IfSome, IsErrOf, IsNone};
+ghost use Rattle.std.specs.Prelude.{◌≡◌, ◌↔◌, ◌⊎◌, ◌<◌, ◌≤◌, ℕ, List, Some, Ok, Err, length, map, string_bytes, IfOk, IfErr, IfSome, IsNone};
 ghost use Rattle.std.specs.Io.KnownBytes.{Appends};
 ghost use Rattle.sig_base.specs.Faults.{NoneFell, Rose};
 ghost use Rattle.sig_base.specs.Writing.{AppendsPart};
-ghost use Rattle.isosearch.specs.Ending.{Completes, Decides, EndsAsDue, EndsExactly, EndsShort, IsAnswered, IsCutShort, IsDecided, IsRefused, outcome_of, reported};
-ghost use Rattle.isosearch.specs.Lines.{Says, no_memory_line, not_read_line, not_written_line, usage_line};
-ghost use Rattle.isosearch.specs.Outcome.{Answers, Due, Loads, listed, searched};
+ghost use Rattle.isosearch.specs.Ending.{Completes, Decides, EndsAsDue, EndsExactly, EndsShort, EndsUnread, IfUnread, IsAnswered, IsCutShort, IsDecided, IsRefused, NoneRose, outcome_of, reported};
+ghost use Rattle.isosearch.specs.Lines.{Says, no_memory_line, not_written_line, usage_line};
+ghost use Rattle.isosearch.specs.Outcome.{Answers, Due, listed, path_at as the_path, refused_files, searched};
 ghost use Rattle.isosearch.specs.Words.{command_of as the_command, given, search as the_search};
 ghost use Rattle.isosearch.specs.declared.run.Refusal.TheVariants as refusal;
+ghost use Rattle.search_core.specs.Loading as loading;
+ghost use Rattle.search_core.specs.Loading.{FailsAt, Loads, most_files};
 ghost use Rattle.search_core.specs.declared.answer.Hit.{Hit};
 ghost use Rattle.search_core.specs.Search.{AreHits, CanBeSearchedFor};
 ghost use Rattle.type_core.specs.ValidLibrary.{IsValidLibrary};
 
-use crate::fault::{Fault, SourceRefusal};
 use crate::laws::one_outcome;
-use crate::library::read_library;
 use crate::lines;
-use crate::query::{MAX_SOURCE, read_query};
 use crate::words::{Command, Request, command_of};
+use query_parser::{QueryRefusal, QueryWhy, read_query};
 use search_core::{
-    Mode, hits_are_members, list_report, report, search, valid_libraries_can_be_searched,
+    LoadRefusal, MAX_FILES, Mode, hits_are_members, list_report, load_files, report, search,
+    valid_libraries_can_be_searched,
 };
-use sig_base::{Files, NoMemory, ReadRefusal, Sink, Text, read_whole, write_all};
+use sig_base::{Files, List, NoMemory, Sink, Str, Text, write_all};
 use sml_lexer::{LineCol, position};
 use std::alloc::Global;
 use type_core::{Library, Scheme};
@@ -36,12 +37,10 @@ pub struct Report {
 /// Why there is no report.
 #[derive(Clone, Copy, Debug, PartialEq, Eq)]
 pub enum Refusal {
-    ReadFault,
-    TooLong,
-    /// This is wrong with the file, at a line and a column.
-    File(Fault, LineCol),
+    /// The files have no library.
+    Files(LoadRefusal),
     /// This is wrong with the query, at a line and a column.
-    Query(Fault, LineCol),
+    Query(QueryWhy, LineCol),
     NoMemory,
 }
 
@@ -53,27 +52,28 @@ impl From<NoMemory> for Refusal {
     }
 }
 
-// The library of the file at this path.
-fn load<F: Files>(alloc: Global, path: &str, files: &mut F) -> Result<Library, Refusal>
-    ensures loaded { IfOk result (λ library. Loads (F.files files.old) path.now (Ok library)) }
+// Copies of the words.
+fn copies_of(alloc: Global, words: &[String]) -> Result<List<Str>, NoMemory>
+    ensures { IfOk result (λ copies. copies ≡ map string_bytes words.now) }
+{
+    let mut copies = List::new(alloc);
+    for word in words {
+        copies.push(Str::copy_of(alloc, word.as_str())?)?;
+    }
+    Ok(copies)
+}
+
+// The library of the files at these paths.
+fn load<F: Files>(alloc: Global, paths: &[String], files: &mut F) -> Result<Library, LoadRefusal>
+    ensures loaded { loading.IsDecided result → Loads (F.files files.old) (map string_bytes paths.now) result }
     ensures valid { IfOk result IsValidLibrary }
-    ensures refusal { IfErr result (λ r. Decides (λ outcome. Loads (F.files files.old) path.now (Err outcome)) path.now r) }
-    ensures fault { IsErrOf result Refusal.ReadFault → Rose (F.read_faults files.old path.now) (F.read_faults files.new path.now) }
+    ensures unread { most_files < length (map string_bytes paths.now) → files.new ≡ files.old }
+    ensures fault { loading.IfReadFault result (FailsAt (F.files files.old) (map string_bytes paths.now) (F.read_faults files.old) (F.read_faults files.new)) }
     ensures counts { NoneFell (F.read_faults files.old) (F.read_faults files.new) }
     ensures kept { F.files files.new ≡ F.files files.old }
 {
-    match read_whole(alloc, files, path, MAX_SOURCE) {
-        Ok(bytes) => match read_library(alloc, bytes.as_slice()) {
-            Ok(library) => Ok(library),
-            Err(SourceRefusal::Refused(fault, place)) => {
-                Err(Refusal::File(fault, position(bytes.as_slice(), place)))
-            }
-            Err(SourceRefusal::NoMemory) => Err(Refusal::NoMemory),
-        },
-        Err(ReadRefusal::ReadFault) => Err(Refusal::ReadFault),
-        Err(ReadRefusal::TooLong) => Err(Refusal::TooLong),
-        Err(ReadRefusal::NoMemory) => Err(Refusal::NoMemory),
-    }
+    let paths = copies_of(alloc, paths)?;
+    load_files(alloc, files, &paths)
 }
 
 // The report of a whole library.
@@ -112,30 +112,31 @@ fn report_hits(
 fn find(alloc: Global, library: &Library, mode: Mode, query: &str) -> Result<Report, Refusal>
     requires valid { IsValidLibrary library.now }
     ensures found { IfOk result (λ r. Answers library.now (the_search mode query.now) (reported r)) }
-    ensures refusal { (path : List ℕ) → IfErr result (λ r. Decides (Answers library.now (the_search mode query.now)) path r) }
-    ensures fault { IsErrOf result Refusal.ReadFault → ⊥ }
+    ensures refusal { (paths : List (List ℕ)) → IfErr result (λ r. Decides (Answers library.now (the_search mode query.now)) paths r) }
+    ensures fault { IfUnread result (λ _. ⊥) }
 {
-    match read_query(alloc, query.as_bytes()) {
+    match read_query(alloc, library, query) {
         Ok(scheme) => {
             let report = report_hits(alloc, library, mode, &scheme)?;
             Ok(report)
         }
-        Err(SourceRefusal::Refused(fault, place)) => {
-            Err(Refusal::Query(fault, position(query.as_bytes(), place)))
+        Err(QueryRefusal::Refused(why, place)) => {
+            Err(Refusal::Query(why, position(query.as_bytes(), place)))
         }
-        Err(SourceRefusal::NoMemory) => Err(Refusal::NoMemory),
+        Err(QueryRefusal::NoMemory) => Err(Refusal::NoMemory),
     }
 }
 
 // The report that a command asks for.
 fn answer<F: Files>(alloc: Global, command: Command<'_>, files: &mut F) -> Result<Report, Refusal>
     ensures found { IfOk result (λ r. Due (F.files files.old) (given command.entry) (reported r)) }
-    ensures refusal { IfErr result (λ r. Decides (Due (F.files files.old) (given command.entry)) command.entry.file.now r) }
-    ensures fault { IsErrOf result Refusal.ReadFault → Rose (F.read_faults files.old command.entry.file.now) (F.read_faults files.new command.entry.file.now) }
+    ensures refusal { IfErr result (λ r. Decides (Due (F.files files.old) (given command.entry)) (given command.entry).files r) }
+    ensures fault { IfUnread result (FailsAt (F.files files.old) (given command.entry).files (F.read_faults files.old) (F.read_faults files.new)) }
+    ensures unread { most_files < length (given command.entry).files → files.new ≡ files.old }
     ensures counts { NoneFell (F.read_faults files.old) (F.read_faults files.new) }
     ensures kept { F.files files.new ≡ F.files files.old }
 {
-    match load(alloc, command.file, files) {
+    match load(alloc, command.files, files) {
         Ok(library) => match command.request {
             Request::Search(mode, query) => find(alloc, &library, mode, query),
             Request::List => {
@@ -143,30 +144,68 @@ fn answer<F: Files>(alloc: Global, command: Command<'_>, files: &mut F) -> Resul
                 Ok(report)
             }
         },
-        Err(refusal) => Err(refusal),
+        Err(refusal) => Err(Refusal::Files(refusal)),
+    }
+}
+
+// The path of this number.
+fn path_at(paths: &[String], place: usize) -> &str
+    ensures { result.now ≡ the_path (map string_bytes paths.now) place }
+{
+    match paths.get(place) {
+        Some(path) => path.as_str(),
+        None => "",
+    }
+}
+
+// Says why the files at these paths have no library, and answers the status.
+fn refuse_files<E: Sink>(err: &mut E, paths: &[String], refusal: LoadRefusal) -> u8
+    ensures status { result ≡ (refused_files (map string_bytes paths.now) refusal).status }
+    ensures line { Says (E.written err.old) (E.written err.new) (E.faults err.old) (E.faults err.new) (refused_files (map string_bytes paths.now) refusal).err }
+{
+    match refusal {
+        LoadRefusal::TooManyFiles => {
+            lines::too_many(err, path_at(paths, MAX_FILES));
+            3
+        }
+        LoadRefusal::ReadFault(file) => {
+            lines::not_read(err, path_at(paths, file as usize));
+            5
+        }
+        LoadRefusal::TooLong(file) => {
+            lines::too_long(err, path_at(paths, file as usize));
+            3
+        }
+        LoadRefusal::Bad {
+            file,
+            line,
+            col,
+            fault,
+        } => {
+            lines::bad_file(
+                err,
+                path_at(paths, file as usize),
+                fault,
+                LineCol { line, col },
+            );
+            3
+        }
+        LoadRefusal::NoMemory => {
+            lines::no_memory(err);
+            7
+        }
     }
 }
 
 // Says why there is no report, and answers the status.
-fn refuse<E: Sink>(err: &mut E, file: &str, refusal: Refusal) -> u8
-    ensures status { result ≡ (outcome_of file.now refusal).status }
-    ensures line { Says (E.written err.old) (E.written err.new) (E.faults err.old) (E.faults err.new) (outcome_of file.now refusal).err }
+fn refuse<E: Sink>(err: &mut E, paths: &[String], refusal: Refusal) -> u8
+    ensures status { result ≡ (outcome_of (map string_bytes paths.now) refusal).status }
+    ensures line { Says (E.written err.old) (E.written err.new) (E.faults err.old) (E.faults err.new) (outcome_of (map string_bytes paths.now) refusal).err }
 {
     match refusal {
-        Refusal::ReadFault => {
-            lines::not_read(err, file);
-            5
-        }
-        Refusal::TooLong => {
-            lines::too_long(err, file);
-            3
-        }
-        Refusal::File(fault, at) => {
-            lines::bad_file(err, file, fault, at);
-            3
-        }
-        Refusal::Query(fault, at) => {
-            lines::bad_query(err, fault, at);
+        Refusal::Files(refusal) => refuse_files(err, paths, refusal),
+        Refusal::Query(why, at) => {
+            lines::bad_query(err, why, at);
             4
         }
         Refusal::NoMemory => {
@@ -194,8 +233,8 @@ fn print<O: Sink, E: Sink>(report: &Report, out: &mut O, err: &mut E) -> u8
 }
 
 /// Does what the words ask, and answers the status: 0 for a list and for a search with a hit, 1 for a search
-/// without, 2 where the words are no command, 3 where the file is refused, 4 where the query is, 5 where the
-/// file can't be read, 6 where the output can't be written, 7 where memory is wanted.
+/// without, 2 where the words are no command, 3 where a file is refused or there are too many, 4 where the query
+/// is refused, 5 where a file can't be read, 6 where the output can't be written, 7 where memory is wanted.
 pub fn run<F: Files, O: Sink, E: Sink>(
     alloc: Global,
     words: &[String],
@@ -209,8 +248,8 @@ pub fn run<F: Files, O: Sink, E: Sink>(
     ensures usage { (result ≡ 2) ↔ IsNone (the_command (map string_bytes words.now)) }
     ensures decided { IsDecided result → IfSome (the_command (map string_bytes words.now)) (λ command. EndsAsDue (F.files files.old) command result (O.written out.old) (O.written out.new) (E.written err.old) (E.written err.new) (E.faults err.old) (E.faults err.new)) }
     ensures exact { (IsCutShort result → ⊥) → IfSome (the_command (map string_bytes words.now)) (λ command. EndsExactly (F.files files.old) command result (O.written out.old) (O.written out.new) (E.written err.old) (E.written err.new) (E.faults err.old) (E.faults err.new)) }
-    ensures complete { IfSome (the_command (map string_bytes words.now)) (λ command. (Rose (F.read_faults files.old command.file) (F.read_faults files.new command.file) → ⊥) → (Rose (O.faults out.old) (O.faults out.new) → ⊥) → Completes (F.files files.old) command result (O.written out.old) (O.written out.new)) }
-    ensures read_fault { result ≡ 5 → IfSome (the_command (map string_bytes words.now)) (λ command. Rose (F.read_faults files.old command.file) (F.read_faults files.new command.file)) }
+    ensures complete { IfSome (the_command (map string_bytes words.now)) (λ command. NoneRose command.files (F.read_faults files.old) (F.read_faults files.new) → (Rose (O.faults out.old) (O.faults out.new) → ⊥) → Completes (F.files files.old) command result (O.written out.old) (O.written out.new)) }
+    ensures read_fault { result ≡ 5 → IfSome (the_command (map string_bytes words.now)) (λ command. EndsUnread (F.files files.old) command.files (F.read_faults files.old) (F.read_faults files.new) (E.written err.old) (E.written err.new) (E.faults err.old) (E.faults err.new)) }
     ensures write_fault { result ≡ 6 → Rose (O.faults out.old) (O.faults out.new) }
 
     // What is written to the output besides.
@@ -220,11 +259,11 @@ pub fn run<F: Files, O: Sink, E: Sink>(
     // What is written to standard error besides.
     ensures quiet { IsAnswered result → E.written err.new ≡ E.written err.old }
     ensures says_usage { result ≡ 2 → Says (E.written err.old) (E.written err.new) (E.faults err.old) (E.faults err.new) usage_line }
-    ensures says_file { result ≡ 5 → IfSome (the_command (map string_bytes words.now)) (λ command. Says (E.written err.old) (E.written err.new) (E.faults err.old) (E.faults err.new) (not_read_line command.file)) }
     ensures says_output { result ≡ 6 → Says (E.written err.old) (E.written err.new) (E.faults err.old) (E.faults err.new) not_written_line }
     ensures says_memory { result ≡ 7 → Says (E.written err.old) (E.written err.new) (E.faults err.old) (E.faults err.new) no_memory_line }
 
     // What stays.
+    ensures unread { IfSome (the_command (map string_bytes words.now)) (λ command. most_files < length command.files → files.new ≡ files.old) }
     ensures kept { F.files files.new ≡ F.files files.old }
     ensures counts { NoneFell (F.read_faults files.old) (F.read_faults files.new) }
 {
@@ -235,6 +274,6 @@ pub fn run<F: Files, O: Sink, E: Sink>(
     one_outcome();
     match answer(alloc, command, files) {
         Ok(report) => print(&report, out, err),
-        Err(refusal) => refuse(err, command.file, refusal),
+        Err(refusal) => refuse(err, command.files, refusal),
     }
 }

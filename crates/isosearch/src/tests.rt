@@ -1,8 +1,12 @@
 // What the command answers and writes over files and sinks in memory, as tables.
+ghost use Rattle.std.specs.Prelude.{◌≡◌, IfOk};
+
 use crate::run::run;
-use sig_base::{List, MemFile, MemFiles, MemSink, NoMemory, Text};
+use search_core::load_files;
+use sig_base::{List, MemFile, MemFiles, MemSink, NoMemory, Str, Text};
 use std::alloc::{AllocError, Global};
 use std::test::Fail;
+use type_core::Equality;
 
 const USAGE: &str = "usage: isosearch list|same|iso|general|index|gen\n";
 
@@ -16,29 +20,36 @@ const L: &str = "signature L = sig
 end
 ";
 
-// One file, and the numbers of the calls that fail: a read, a put to the output and a put to standard
+// The files F and G, and the numbers of the calls that fail: a read, a put to the output and a put to standard
 // error. No call has the number 0.
 #[derive(Clone, Copy)]
 struct Outside<'a> {
-    path: &'a str,
-    text: &'a str,
+    first: &'a str,
+    second: &'a str,
     read: u64,
     out: u64,
     err: u64,
 }
 
-// A file, where no call fails.
-fn sound<'a>(path: &'a str, text: &'a str) -> Outside<'a> {
+// Two files, where no call fails.
+fn both<'a>(first: &'a str, second: &'a str) -> Outside<'a> {
     Outside {
-        path,
-        text,
+        first,
+        second,
         read: 0,
         out: 0,
         err: 0,
     }
 }
 
-fn mem_file(alloc: Global, path: &str, text: &str) -> Result<MemFile, NoMemory> {
+// A file F beside an empty one, where no call fails.
+fn sound(text: &str) -> Outside<'_> {
+    both(text, "")
+}
+
+fn mem_file(alloc: Global, path: &str, text: &str) -> Result<MemFile, NoMemory>
+    ensures path { IfOk result (λ file. file.path ≡ path.now) }
+{
     let path = Text::from_slice(alloc, path.as_bytes())?;
     let bytes = List::from_vec(Vec::from_slice(alloc, text.as_bytes())?);
     Ok(MemFile { path, bytes })
@@ -53,7 +64,8 @@ fn only(alloc: Global, number: u64) -> Result<List<u64>, NoMemory> {
 
 fn mem_files(alloc: Global, outside: &Outside<'_>) -> Result<MemFiles, NoMemory> {
     let mut files = List::new(alloc);
-    files.push(mem_file(alloc, outside.path, outside.text)?)?;
+    files.push(mem_file(alloc, "F", outside.first)?)?;
+    files.push(mem_file(alloc, "G", outside.second)?)?;
     Ok(MemFiles::new(alloc, files, only(alloc, outside.read)?))
 }
 
@@ -105,22 +117,93 @@ fn tells_commands(rt: HostRuntime) -> Result<(), Fail> {
         ([].as_slice(), 2, USAGE),
         (&["list"], 2, USAGE),
         (&["list", "-"], 2, USAGE),
-        (&["list", "L.sig", "L.sig"], 2, USAGE),
+        (&["list", "F", "-", "G"], 2, USAGE),
         (&["same", "int"], 2, USAGE),
-        (&["same", "-", "L.sig"], 2, USAGE),
-        (&["iso", "int", "-"], 2, USAGE),
-        (&["general", "int", "L.sig"], 2, USAGE),
-        (&["iso", "int", "M.sig"], 5, "M.sig: cannot be read\n"),
-        (&["list", "M.sig"], 5, "M.sig: cannot be read\n"),
-        (&["same", "int ->", "M.sig"], 5, "M.sig: cannot be read\n"),
+        (&["same", "-", "F"], 2, USAGE),
+        (&["iso", "int", "F", "-"], 2, USAGE),
+        (&["general", "int", "F"], 2, USAGE),
+        (&["iso", "int", "M"], 5, "M: cannot be read\n"),
+        (&["list", "F", "M", "G"], 5, "M: cannot be read\n"),
+        (&["same", "int ->", "M"], 5, "M: cannot be read\n"),
+        (&["list", "F", "G", "F"], 3, "F:1:11: described twice\n"),
     ];
     for (words, status, err) in rows {
-        let outside = sound("L.sig", L);
         assert!(rt;
-            ends(rt.alloc(), words, outside, status, "", err)?,
+            ends(rt.alloc(), words, sound(L), status, "", err)?,
             "{words:?}"
         );
     }
+    Ok(())
+}
+
+// Words, and how the run ends over both files.
+#[test]
+fn takes_files_in_turn(rt: HostRuntime) -> Result<(), Fail> {
+    let a = "signature A = sig type 'a t type u = int * bool val f : u -> int t end";
+    let b = "signature B = sig val g : int * bool -> int val h : bool -> int -> int end";
+    let rows = [
+        (
+            ["list", "F", "G"].as_slice(),
+            0,
+            "val A.f : int * bool -> int A.t
+val B.g : int * bool -> int
+val B.h : bool -> int -> int
+3 found
+",
+            "",
+        ),
+        (
+            &["iso", "A.u -> int", "G", "F"],
+            0,
+            "val B.g : int * bool -> int\nval B.h : bool -> int -> int\n2 found\n",
+            "",
+        ),
+        (
+            &["same", "A.u -> int", "F", "G"],
+            0,
+            "val B.g : int * bool -> int\n1 found\n",
+            "",
+        ),
+        (
+            &["iso", "bool -> int -> int A.t", "F", "G"],
+            0,
+            "val A.f : int * bool -> int A.t\n1 found\n",
+            "",
+        ),
+        (
+            &["same", "A.u -> int", "G"],
+            4,
+            "",
+            "query:1:1: unbound identifier\n",
+        ),
+        (
+            &["same", "A.t", "F"],
+            4,
+            "",
+            "query:1:1: wrong number of type arguments\n",
+        ),
+    ];
+    for (words, status, out, err) in rows {
+        assert!(rt;
+            ends(rt.alloc(), words, both(a, b), status, out, err)?,
+            "{words:?}"
+        );
+    }
+    Ok(())
+}
+
+// The word `list`, followed by 513 times the word `f`.
+#[test]
+fn takes_so_many_files(rt: HostRuntime) -> Result<(), Fail> {
+    let mut words = Vec::new(rt.alloc());
+    words.push("list")?;
+    for _ in 0..513 {
+        words.push("f")?;
+    }
+    let err = "f: more than 512 files\n";
+    assert!(rt; ends(rt.alloc(), words.as_slice(), sound(L), 3, "", err)?);
+    let err = "f: cannot be read\n";
+    assert!(rt; ends(rt.alloc(), &words.as_slice()[..513], sound(L), 5, "", err)?);
     Ok(())
 }
 
@@ -156,10 +239,46 @@ val B.r : {2 : B.t, a : 'a -> ''b, b : int}
     for (text, out) in rows {
         let words = ["list", "F"];
         assert!(rt;
-            ends(rt.alloc(), &words, sound("F", text), 0, out, "")?,
+            ends(rt.alloc(), &words, sound(text), 0, out, "")?,
             "{text}"
         );
     }
+    Ok(())
+}
+
+// The paths of the names that a file describes, with `=` after those that admit equality where their arguments do.
+fn described(alloc: Global, text: &str) -> Result<Text, NoMemory> {
+    let mut files = mem_files(alloc, &sound(text))?;
+    let mut paths = List::new(alloc);
+    paths.push(Str::copy_of(alloc, "F")?)?;
+    let Ok(library) = load_files(alloc, &mut files, &paths) else {
+        return Err(NoMemory);
+    };
+    let mut described = Text::new(alloc);
+    for (n, name) in library.names.as_slice().iter().enumerate() {
+        if n < 14 {
+            continue;
+        }
+        described.extend(name.path.as_slice())?;
+        if name.equality == Equality::IfArgs {
+            described.push(b'=')?;
+        }
+        described.push(b' ')?;
+    }
+    Ok(described)
+}
+
+#[test]
+fn settles_equality(rt: HostRuntime) -> Result<(), Fail> {
+    let text = "signature E = sig
+datatype t = T of u and u = U of int -> int
+datatype v = V of w | N and w = W of v * string
+datatype a = A of b list | M and b = B of int * a and x = X of a -> b | Y of x and r = R of x ref
+datatype p = P of q and q = Q of s and s = S of real
+datatype 'a d = D of 'a
+end";
+    let due = "E.t E.u E.v= E.w= E.a= E.b= E.x E.r= E.p E.q E.s E.d= ";
+    assert!(rt; described(rt.alloc(), text)?.as_slice() == due.as_bytes());
     Ok(())
 }
 
@@ -186,6 +305,12 @@ fn finds_values(rt: HostRuntime) -> Result<(), Fail> {
             "int * int * (unit) list",
             "signature P = sig type u = int val left : (int * u) * int val flat : int * u * unit list end",
             "val P.flat : int * int * unit list\n1 found\n",
+        ),
+        (
+            "same",
+            "{b : {}, a : {2 : int, 1 : 'x}}",
+            "signature R = sig val r : {a : 'a * int, b : unit} end",
+            "val R.r : {a : 'a * int, b : unit}\n1 found\n",
         ),
         ("iso", "'x list * ('x -> 'y) -> 'y list", L, map),
         (
@@ -228,14 +353,14 @@ fn finds_values(rt: HostRuntime) -> Result<(), Fail> {
         let words = [mode, query, "F"];
         let status = if out == none { 1 } else { 0 };
         assert!(rt;
-            ends(rt.alloc(), &words, sound("F", text), status, out, "")?,
+            ends(rt.alloc(), &words, sound(text), status, out, "")?,
             "{mode} {query} in {text}"
         );
     }
     Ok(())
 }
 
-// A file S.sig, and what is wrong with it.
+// A file, and what is wrong with it.
 #[test]
 fn refuses_files(rt: HostRuntime) -> Result<(), Fail> {
     let rows = [
@@ -318,10 +443,10 @@ end",
     ];
     for (text, line) in rows {
         // The file is refused before the query is read.
-        let err = format!(in rt.alloc(); "S.sig:{line}\n")?;
-        let words = ["same", "int ->", "S.sig"];
+        let err = format!(in rt.alloc(); "F:{line}\n")?;
+        let words = ["same", "int ->", "F"];
         assert!(rt;
-            ends(rt.alloc(), &words, sound("S.sig", text), 3, "", &err)?,
+            ends(rt.alloc(), &words, sound(text), 3, "", &err)?,
             "{text}"
         );
     }
@@ -339,7 +464,7 @@ fn repeated(alloc: Global, parts: &[(&str, u32)]) -> Result<String, AllocError> 
     Ok(text)
 }
 
-// The type of a value in a file Z.sig, and what is wrong with it.
+// The type of a value in a file, and what is wrong with it.
 #[test]
 fn keeps_limits_of_files(rt: HostRuntime) -> Result<(), Fail> {
     let rows = [
@@ -364,30 +489,21 @@ fn keeps_limits_of_files(rt: HostRuntime) -> Result<(), Fail> {
     for (parts, line) in rows {
         let part = repeated(rt.alloc(), parts)?;
         let text = format!(in rt.alloc(); "signature Z = sig val x : {part} end")?;
-        let err = format!(in rt.alloc(); "Z.sig:{line}\n")?;
+        let err = format!(in rt.alloc(); "F:{line}\n")?;
         let (status, out, err) = if line.is_empty() {
             (1, "0 found\n", "")
         } else {
             (3, "", err.as_str())
         };
-        let words = ["same", "bool", "Z.sig"];
+        let words = ["same", "bool", "F"];
         assert!(rt;
-            ends(rt.alloc(), &words, sound("Z.sig", &text), status, out, err)?,
+            ends(rt.alloc(), &words, sound(&text), status, out, err)?,
             "{line}"
         );
     }
     let text = repeated(rt.alloc(), &[(" ", 4_194_305)])?;
-    let err = "Z.sig: longer than 4194304 bytes\n";
-    assert!(rt;
-        ends(
-            rt.alloc(),
-            &["list", "Z.sig"],
-            sound("Z.sig", &text),
-            3,
-            "",
-            err
-        )?
-    );
+    let err = "F: longer than 4194304 bytes\n";
+    assert!(rt; ends(rt.alloc(), &["list", "F"], sound(&text), 3, "", err)?);
     Ok(())
 }
 
@@ -401,9 +517,17 @@ fn refuses_queries(rt: HostRuntime) -> Result<(), Fail> {
         (&[("int (*", 1)], "1:5: comment is not closed"),
         (&[("(", 201)], "1:201: nesting is too deep"),
         (&[("x", 256)], "1:1: name is longer than 255 bytes"),
-        (&[(" 'a * int option", 1)], "1:2: not built yet"),
-        (&[("int * {a : int}", 1)], "1:1: not built yet"),
-        (&[("A.t", 1)], "1:1: not built yet"),
+        (&[(" 'a * int option * t", 1)], "1:20: unbound identifier"),
+        (&[("int * L.t", 1)], "1:7: unbound identifier"),
+        (
+            &[("int * int list ref int", 1)],
+            "1:20: wrong number of type arguments",
+        ),
+        (&[("int unit", 1)], "1:5: wrong number of type arguments"),
+        (
+            &[("{a : int, b : bool, a : t}", 1)],
+            "1:21: described twice",
+        ),
         (&[("int * ", 198), ("int", 1)], ""),
         (&[("int * ", 199), ("int", 1)], "1:1: query is too large"),
         (
@@ -420,9 +544,9 @@ fn refuses_queries(rt: HostRuntime) -> Result<(), Fail> {
         } else {
             (4, "", err.as_str())
         };
-        let words = ["iso", query.as_str(), "L.sig"];
+        let words = ["iso", query.as_str(), "F"];
         assert!(rt;
-            ends(rt.alloc(), &words, sound("L.sig", L), status, out, err)?,
+            ends(rt.alloc(), &words, sound(L), status, out, err)?,
             "{line}"
         );
     }
@@ -432,11 +556,11 @@ fn refuses_queries(rt: HostRuntime) -> Result<(), Fail> {
 // The numbers of the calls that fail, and how the run ends.
 #[test]
 fn ends_where_calls_fail(rt: HostRuntime) -> Result<(), Fail> {
-    let find = ["same", "('x -> 'y) -> 'x list -> 'y list", "L.sig"].as_slice();
-    let list = ["list", "L.sig"].as_slice();
+    let find = ["same", "('x -> 'y) -> 'x list -> 'y list", "F"].as_slice();
+    let list = ["list", "F"].as_slice();
     let rows = [
-        (find, 1, 0, 5, "", "L.sig: cannot be read\n"),
-        (list, 2, 0, 5, "", "L.sig: cannot be read\n"),
+        (find, 1, 0, 5, "", "F: cannot be read\n"),
+        (list, 2, 0, 5, "", "F: cannot be read\n"),
         (find, 0, 1, 6, "", "output: cannot be written\n"),
         (
             list,
@@ -447,7 +571,7 @@ fn ends_where_calls_fail(rt: HostRuntime) -> Result<(), Fail> {
             "output: cannot be written\n",
         ),
         (
-            ["same", "int ->", "L.sig"].as_slice(),
+            ["same", "int ->", "F"].as_slice(),
             0,
             1,
             4,
@@ -457,8 +581,8 @@ fn ends_where_calls_fail(rt: HostRuntime) -> Result<(), Fail> {
     ];
     for (words, read, out, status, written, line) in rows {
         let outside = Outside {
-            path: "L.sig",
-            text: L,
+            first: L,
+            second: "",
             read,
             out,
             err: 0,

@@ -1,5 +1,4 @@
-use Rattle.std.proofs.Common.{ap, Err}
-use Rattle.isosearch.proofs.DueEnds.{printed_completely, printed_exactly, refused_completely, refused_exactly}
+use Rattle.isosearch.proofs.DueEnds.{printed_completely, printed_exactly, refused_completely, refused_exactly, unread_said}
 use Rattle.isosearch.proofs.run.run.Goals as goal
 
 pub returns-in-Ok-clause-exact : goal.returns-in-Ok-clause-exact
@@ -16,4 +15,9 @@ returns-in-Err-clause-exact g c =
 
 pub returns-in-Err-clause-complete : goal.returns-in-Err-clause-complete
 returns-in-Err-clause-complete g c =
-    rw c.in-Some.ensures.some (λ read written. refused_completely c.one_outcome.ensures _ _ _ _ _ _ _ _ _ c.in-Err.ensures.refusal c.refuse.ensures.status c.refuse.ensures.line (λ is. read (c.in-Err.ensures.fault (ap (λ e. Err e) is))))
+    rw c.in-Some.ensures.some
+    (λ read written. refused_completely c.one_outcome.ensures _ _ _ _ _ _ _ _ _ c.in-Err.ensures.refusal c.refuse.ensures.status c.refuse.ensures.line _ _ c.in-Err.ensures.fault read)
+
+pub returns-in-Err-clause-read_fault : goal.returns-in-Err-clause-read_fault
+returns-in-Err-clause-read_fault g c =
+    λ five. rw c.in-Some.ensures.some (unread_said _ _ _ _ _ _ _ _ _ _ c.in-Err.ensures.fault c.refuse.ensures.status c.refuse.ensures.line five)
