@@ -30,7 +30,7 @@ impl Reading {
         ensures value { state_of result ≡ machine.start }
     {
         Reading {
-            decs: List::new(alloc),
+            decs: Stack::new(alloc),
             levels: Stack::new(alloc),
             specs: Stack::new(alloc),
             bindings: Stack::new(alloc),

@@ -87,7 +87,7 @@ fn ended(alloc: Global, mut reading: Reading, count: u32) -> Result<SourceFile, 
     if !can {
         return Err(ParseRefusal::Syntax(count));
     }
-    let Reading { decs, .. } = reading;
+    let decs = reading.decs.take_all()?;
     Ok(SourceFile { decs })
 }
 

@@ -163,7 +163,7 @@ pub enum Point {
 /// phrase yet.
 #[derive(Drop)]
 pub struct Reading {
-    pub decs: List<TopDec>,
+    pub decs: Stack<TopDec>,
     /// The bodies that aren't ended, the outermost first.
     pub levels: Stack<Level>,
     /// The specifications of these bodies, and the bindings before them, those of the outermost first.

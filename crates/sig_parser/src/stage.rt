@@ -134,7 +134,7 @@ impl Reading {
         ensures { IfOk result (λ can. taken can (state_of self.new)
             ≡ machine.behind_type self.old.decs (levels_over self.old (before_owner owner self.old.bindings)) (owner_of owner self.old) first (types.finish (types.state_of self.old.reader)) place sort) }
     {
-        match self.reader.finish()? {
+        match self.reader.finish(alloc)? {
             None => Ok(false),
             Some(ty) => {
                 self.owned(owner, TypeAt { first, ty })?;
@@ -226,11 +226,11 @@ impl Reading {
     }
 
     // Ends the type that is read, if there is one.
-    fn end_type(&mut self) -> Result<bool, NoMemory>
+    fn end_type(&mut self, alloc: Global) -> Result<bool, NoMemory>
         ensures { IfOk result (λ can. taken can (state_of self.new) ≡ type_ended (state_of self.old)) }
     {
         match self.point {
-            Point::InType(owner, first) => match self.reader.finish()? {
+            Point::InType(owner, first) => match self.reader.finish(alloc)? {
                 None => Ok(false),
                 Some(ty) => {
                     self.owned(owner, TypeAt { first, ty })?;
@@ -248,7 +248,7 @@ impl Reading {
         if !self.levels.is_empty() {
             return Ok(false);
         }
-        let can = self.end_type()?;
+        let can = self.end_type(alloc)?;
         if !can {
             return Ok(false);
         }

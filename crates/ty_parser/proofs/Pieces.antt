@@ -14,9 +14,9 @@ use Rattle.ty_parser.specs.declared.reader.Stage.{Stage}
 use Rattle.ty_parser.specs.declared.reader.Stage.TheVariants as stage
 use Rattle.ty_parser.specs.declared.reader.Reader.{Reader}
 use Rattle.ty_parser.specs.declared.tree.TyExp.TheVariants as ty
-use Rattle.ty_parser.specs.declared.reader.Operand.TheVariants as operand
+use Rattle.ty_parser.specs.Operands as operand
 use Rattle.ty_parser.specs.Grammar.{field, of_parts}
-use Rattle.ty_parser.specs.Machine.{Parens, State, Want, Have, Label, Tycon, Level, Opened, Stack, stack, fresh, last_of, before_last, level_of, before_level, opened_of, levels_of, tuple_of, with_part, with_side, inside, whole, enclosed, comma, right_paren, right_brace, closed, depth, state_at, braces_of}
+use Rattle.ty_parser.specs.Machine.{Parens, State, Want, Have, Label, Tycon, Stack, stack, fresh, last_of, before_last, level_of, before_level, opened_of, levels_of, tuple_of, with_part, with_side, inside, enclosed, comma, right_paren, right_brace, closed, depth, state_at, braces_of}
 use Rattle.ty_parser.proofs.Stacks.{last_of-none, before_last-none, before_last-all, last_of-more, before_last-more}
 
 -- the last of a list is the first of it from the end
@@ -232,11 +232,12 @@ closed_some ls es fs e f empty same = ap Some same ∙ sym (ap (λ ls. closed (o
 pub depth_is : (st : Stage) (r : Reader) → depth (state_at st r) ≡ length r.around + braces_of st
 unfolding depth
 depth_is stage.Wants r = let held = around_length r.around (before_level r.level r.types) r.fields in omega (arith, held)
-depth_is (stage.Has a) r = let held = around_length r.around (before_level r.level r.types) r.fields in omega (arith, held)
+depth_is stage.HasType r = let held = around_length r.around (before_level r.level r.types) r.fields in omega (arith, held)
+depth_is stage.HasApplied r = let held = around_length r.around (before_level r.level r.types) r.fields in omega (arith, held)
 depth_is stage.AfterBrace r = let held = around_length r.around (before_level r.level r.types) r.fields in omega (arith, held)
 depth_is (stage.WantsLabel n) r = let held = around_length r.around (before_level r.level r.types) (before_last n r.fields) in omega (arith, held)
 depth_is (stage.WantsColon n i) r = let held = around_length r.around (before_level r.level r.types) (before_last n r.fields) in omega (arith, held)
-depth_is (stage.WantsTycon es) r = let held = around_length r.around (before_level r.level r.types) r.fields in omega (arith, held)
+depth_is stage.WantsTycon r = let held = around_length r.around (before_level r.level r.types) r.fields in omega (arith, held)
 
 -- the levels inside a parenthesis
 pub inside_is : (r : Result Unit NoMemory) (ls : List Opening) (l : LevelSize) (es : List TyExp) (fs : List FieldExp) (st : State)

@@ -6,7 +6,7 @@ use Rattle.sig_base.specs.declared.word.Word.TheVariants as w
 use Rattle.ty_parser.specs.declared.sort.Sort.{Sort}
 use Rattle.ty_parser.specs.declared.sort.Sort.TheVariants as s
 use Rattle.ty_parser.specs.declared.tree.TyExp.{TyExp}
-use Rattle.ty_parser.specs.declared.reader.Operand.TheVariants as operand
+use Rattle.ty_parser.specs.Operands as operand
 use Rattle.ty_parser.specs.declared.tree.FieldExp.{FieldExp}
 use Rattle.ty_parser.specs.Sorts.{is_label, is_long_tycon}
 use Rattle.ty_parser.specs.Grammar.{Numbered, Ty}

@@ -9,8 +9,8 @@ use Rattle.ty_parser.specs.declared.tree.FieldExp.{FieldExp}
 use Rattle.ty_parser.specs.declared.reader.LevelSize.{LevelSize}
 use Rattle.ty_parser.specs.declared.reader.Opening.{Opening}
 use Rattle.ty_parser.specs.declared.reader.Opening.TheVariants as opening
-use Rattle.ty_parser.specs.declared.reader.Operand.{Operand}
-use Rattle.ty_parser.specs.declared.reader.Operand.TheVariants as operand
+use Rattle.ty_parser.specs.Operands.{Operand}
+use Rattle.ty_parser.specs.Operands as operand
 use Rattle.ty_parser.specs.declared.reader.Stage.{Stage}
 use Rattle.ty_parser.specs.declared.reader.Stage.TheVariants as stage
 use Rattle.ty_parser.specs.declared.reader.Reader.{Reader}
@@ -88,11 +88,12 @@ stack_of r = levels_over r r.fields
 -- the state that a reader is in
 abbrev pub state_at : Stage → Reader → State
 state_at stage.Wants r = Want (stack_of r)
-state_at (stage.Has a) r = Have (stack_of r) a
+state_at stage.HasType r = Have (stack_of r) (operand.Alone r.operand)
+state_at stage.HasApplied r = Have (stack_of r) (operand.Applied r.arguments r.constructors)
 state_at stage.AfterBrace r = Brace (stack_of r)
 state_at (stage.WantsLabel n) r = Label (levels_over r (before_last n r.fields)) (last_of n r.fields)
 state_at (stage.WantsColon n i) r = Colon (levels_over r (before_last n r.fields)) (last_of n r.fields) i
-state_at (stage.WantsTycon es) r = Tycon (stack_of r) es
+state_at stage.WantsTycon r = Tycon (stack_of r) r.arguments
 
 abbrev pub state_of : Reader → State
 state_of r = state_at r.stage r
@@ -100,11 +101,12 @@ state_of r = state_at r.stage r
 -- how many braces are open of which no field is read
 abbrev pub braces_of : Stage → ℕ
 braces_of stage.Wants = 0
-braces_of (stage.Has a) = 0
+braces_of stage.HasType = 0
+braces_of stage.HasApplied = 0
 braces_of stage.AfterBrace = 1
 braces_of (stage.WantsLabel n) = 1
 braces_of (stage.WantsColon n i) = 1
-braces_of (stage.WantsTycon es) = 0
+braces_of stage.WantsTycon = 0
 
 -- the state after a token, where it can stand there
 abbrev pub taken : {S : Type 0} → Bool → S → Option S

@@ -2,7 +2,7 @@
 ghost use Rattle.std.specs.Prelude.{◌≡◌, ℕ, List, is_some};
 ghost use Rattle.ty_parser.specs.Machine as machine;
 ghost use Rattle.ty_parser.specs.Machine.{stack_of};
-ghost use Rattle.ty_parser.specs.declared.reader.Operand.{Operand};
+ghost use Rattle.ty_parser.specs.Operands.{Operand};
 ghost use Rattle.ty_parser.specs.declared.tree.FieldExp.{FieldExp};
 ghost use Rattle.ty_parser.specs.declared.tree.TyExp.{TyExp};
 

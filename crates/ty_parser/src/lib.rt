@@ -22,7 +22,7 @@ pub use laws::{
     no_depth, one_depth, one_front, one_stop, one_tree, reader_counts, reader_ends, reader_refuses,
 };
 pub use parse::{parse_type, read_type};
-pub use reader::{LevelSize, Opening, Operand, Reader, Stage};
+pub use reader::{LevelSize, Opening, Reader, Stage};
 pub use sort::{Sort, sort_of};
 pub use stack::{Stack, one_more};
 pub use tree::{FieldExp, ParseRefusal, TyExp, TypeAt, TypePart};

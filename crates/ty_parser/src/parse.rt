@@ -111,7 +111,7 @@ fn read_part(
     'tokens: while (place as usize) < tokens.len() {
         let sort = sort_of(bytes, tokens[place as usize]);
         if !reader.accepts(sort) {
-            return ended(&mut reader, at, place);
+            return ended(alloc, &mut reader, at, place);
         }
         let can = reader.next(alloc, place, sort)?;
         if !can {
@@ -122,16 +122,21 @@ fn read_part(
         }
         place += 1;
     }
-    ended(&mut reader, at, place)
+    ended(alloc, &mut reader, at, place)
 }
 
 // What reading gives where no more tokens are taken.
-fn ended(reader: &mut Reader, first: u32, next: u32) -> Result<TypePart, ParseRefusal>
+fn ended(
+    alloc: Global,
+    reader: &mut Reader,
+    first: u32,
+    next: u32,
+) -> Result<TypePart, ParseRefusal>
     ensures tree { IfOk result (λ part. machine.finish (state_of reader.old) ≡ Some part.ty.ty) }
     ensures places { IfOk result (λ part. (part.ty.first ≡ first) × (part.next ≡ next)) }
     ensures refusal { IfErr result (λ refusal. (refusal ≡ NoMemory) ⊎ ((refusal ≡ Syntax next) × (machine.finish (state_of reader.old) ≡ None))) }
 {
-    match reader.finish()? {
+    match reader.finish(alloc)? {
         None => Err(ParseRefusal::Syntax(next)),
         Some(ty) => Ok(TypePart {
             ty: TypeAt { first, ty },

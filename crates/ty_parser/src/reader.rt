@@ -6,11 +6,10 @@ ghost use Rattle.ty_parser.specs.Machine.{state_of, stack_of, taken};
 use crate::accepts::{can_brace, can_colon, can_want};
 use crate::sort::Sort;
 use crate::stack::Stack;
-use crate::steps::{fresh, tree, whole};
+use crate::steps::{fresh, whole};
 use crate::tree::{FieldExp, TyExp};
 use sig_base::{List, NoMemory};
 use std::alloc::Global;
-use std::mem;
 
 /// How many types were read of a level before its last operand: the sides before arrows, and after them
 /// the parts before stars.
@@ -29,22 +28,15 @@ pub enum Opening {
     Braces(LevelSize, usize, u32),
 }
 
-/// What a constructor that comes next is applied to.
-#[derive(Debug, Drop)]
-pub enum Operand {
-    /// A type variable, a record, or a type in parentheses.
-    Alone(TyExp),
-    /// Arguments, and the constructors after them.
-    Applied(List<TyExp>, List<u32>),
-}
-
 /// What a reader wants or has at the innermost level.
-#[derive(Debug, Drop)]
+#[derive(Clone, Copy, Debug)]
 pub enum Stage {
     /// An operand is wanted.
     Wants,
-    /// There is an operand, which may go on.
-    Has(Operand),
+    /// There is an operand, which may go on: a type variable, a record, or a type in parentheses.
+    HasType,
+    /// There is an operand, which may go on: arguments, and the constructors after them.
+    HasApplied,
     /// After a left brace: a label is wanted, or the right brace.
     AfterBrace,
     /// After a comma in braces, by how many fields stand before it: a label is wanted.
@@ -52,7 +44,7 @@ pub enum Stage {
     /// After a label, by how many fields stand before it: a colon is wanted.
     WantsColon(usize, u32),
     /// After arguments in parentheses: a constructor is wanted.
-    WantsTycon(List<TyExp>),
+    WantsTycon,
 }
 
 /// A reader of one type, which is handed its tokens one at a time.
@@ -67,19 +59,25 @@ pub struct Reader {
     /// The innermost level.
     pub level: LevelSize,
     pub stage: Stage,
+    /// The operand that there is, where it is no application.
+    pub operand: TyExp,
+    /// The arguments, and the constructors after them, where it is one.
+    pub arguments: List<TyExp>,
+    pub constructors: List<u32>,
 }
 
 // How many braces are open that aren't held yet.
-fn braces(stage: &Stage) -> u32
-    ensures { result ≡ machine.braces_of stage.now }
+fn braces(stage: Stage) -> u32
+    ensures { result ≡ machine.braces_of stage }
 {
     match stage {
         Stage::Wants => 0,
-        Stage::Has(_) => 0,
+        Stage::HasType => 0,
+        Stage::HasApplied => 0,
         Stage::AfterBrace => 1,
         Stage::WantsLabel(_) => 1,
         Stage::WantsColon(_, _) => 1,
-        Stage::WantsTycon(_) => 0,
+        Stage::WantsTycon => 0,
     }
 }
 
@@ -94,6 +92,9 @@ impl Reader {
             around: Stack::new(alloc),
             level: fresh(),
             stage: Stage::Wants,
+            operand: TyExp::Var(0),
+            arguments: List::new(alloc),
+            constructors: List::new(alloc),
         }
     }
 
@@ -113,7 +114,7 @@ impl Reader {
         requires small { machine.depth (state_of self.now) < 2 ^ 32 }
         ensures value { result ≡ machine.depth (state_of self.now) }
     {
-        let more = braces(&self.stage);
+        let more = braces(self.stage);
         self.around.len() as u32 + more
     }
 
@@ -122,13 +123,14 @@ impl Reader {
     pub fn accepts(&self, sort: Sort) -> bool
         ensures value { (place : ℕ) → result ≡ is_some (machine.step (state_of self.now) (place, sort)) }
     {
-        match &self.stage {
+        match self.stage {
             Stage::Wants => can_want(sort),
-            Stage::Has(_) => self.can_have(sort),
+            Stage::HasType => self.can_have(sort),
+            Stage::HasApplied => self.can_have(sort),
             Stage::AfterBrace => can_brace(sort),
             Stage::WantsLabel(_) => sort.is_label(),
             Stage::WantsColon(_, _) => can_colon(sort),
-            Stage::WantsTycon(_) => sort.is_long_tycon(),
+            Stage::WantsTycon => sort.is_long_tycon(),
         }
     }
 
@@ -136,13 +138,14 @@ impl Reader {
     pub fn next(&mut self, alloc: Global, place: u32, sort: Sort) -> Result<bool, NoMemory>
         ensures value { IfOk result (λ can. taken can (state_of self.new) ≡ machine.step (state_of self.old) (place, sort)) }
     {
-        match mem::replace(&mut self.stage, Stage::Wants) {
+        match self.stage {
             Stage::Wants => self.want(alloc, place, sort),
-            Stage::Has(operand) => self.have(alloc, operand, place, sort),
+            Stage::HasType => self.have_type(alloc, place, sort),
+            Stage::HasApplied => self.have_applied(alloc, place, sort),
             Stage::AfterBrace => Ok(self.brace(alloc, place, sort)),
             Stage::WantsLabel(count) => Ok(self.label(count, place, sort)),
             Stage::WantsColon(count, label) => self.colon(count, label, sort),
-            Stage::WantsTycon(arguments) => self.tycon(alloc, arguments, place, sort),
+            Stage::WantsTycon => self.tycon(alloc, place, sort),
         }
     }
 
@@ -158,11 +161,18 @@ impl Reader {
     }
 
     /// The type that was read; `None` exactly where it cannot end here.
-    pub fn finish(&mut self) -> Result<Option<TyExp>, NoMemory>
+    pub fn finish(&mut self, alloc: Global) -> Result<Option<TyExp>, NoMemory>
         ensures value { IfOk result (λ o. o ≡ machine.finish (state_of self.old)) }
     {
-        match mem::replace(&mut self.stage, Stage::Wants) {
-            Stage::Has(operand) => self.closed(tree(operand)),
+        match self.stage {
+            Stage::HasType => {
+                let last = self.take_operand();
+                self.closed(last)
+            }
+            Stage::HasApplied => {
+                let last = self.take_applied(alloc);
+                self.closed(last)
+            }
             _ => Ok(None),
         }
     }

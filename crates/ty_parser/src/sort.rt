@@ -71,13 +71,16 @@ pub fn sort_of(bytes: &[u8], token: Token) -> Sort
     requires within { token.span.end ≤ length bytes.now }
     ensures value { result ≡ spec.sort_of bytes.now token }
 {
-    let text = &bytes[token.span.start as usize..token.span.end as usize];
     match token.kind {
         TokenKind::Reserved(word) => Sort::Reserved(word),
         TokenKind::TyVar => Sort::Variable,
         TokenKind::Alpha => Sort::Alphanumeric,
-        TokenKind::Sym => sort_of_symbol(text),
-        TokenKind::Long => sort_of_long(text),
+        TokenKind::Sym => {
+            sort_of_symbol(&bytes[token.span.start as usize..token.span.end as usize])
+        }
+        TokenKind::Long => {
+            sort_of_long(&bytes[token.span.start as usize..token.span.end as usize])
+        }
         TokenKind::Num => Sort::Numeral,
     }
 }

@@ -80,10 +80,13 @@ impl<T> Stack<T> {
 }
 
 impl<T: Drop> Stack<T> {
-    /// Adds a value at the end.
+    /// Adds a value at the end. The first of all takes no more room than it needs.
     pub fn push(&mut self, item: T) -> Result<(), NoMemory>
         ensures pushed { OnOk result (self.new ≡ self.old ++ item ∷ []) }
     {
+        if self.items.capacity() == 0 {
+            self.items.reserve_exact(1)?;
+        }
         match self.items.push(item) {
             Ok(()) => Ok(()),
             Err(_) => Err(NoMemory),

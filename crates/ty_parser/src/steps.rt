@@ -1,14 +1,16 @@
 // What each stage of a reader becomes by a token.
 ghost use Rattle.std.specs.Prelude.{◌≡◌, ◌+◌, [], ◌∷◌, IfOk, OnOk, reverse};
 ghost use Rattle.ty_parser.specs.Machine as machine;
+ghost use Rattle.ty_parser.specs.Operands.{Alone, Applied};
 ghost use Rattle.ty_parser.specs.Machine.{last_of, before_last, level_of, before_level, levels_of, levels_over, opened_of, state_of, stack_of, tree_of, taken};
 
-use crate::reader::{LevelSize, Opening, Operand, Reader, Stage};
+use crate::reader::{LevelSize, Opening, Reader, Stage};
 use crate::sort::Sort;
 use crate::stack::{Stack, one_more};
 use crate::tree::{FieldExp, TyExp};
 use sig_base::{List, NoMemory, Word};
 use std::alloc::Global;
+use std::mem;
 
 fn one<T: Drop>(alloc: Global, item: T) -> Result<List<T>, NoMemory>
     ensures { IfOk result (λ all. all ≡ item ∷ []) }
@@ -22,28 +24,6 @@ pub fn fresh() -> LevelSize
     ensures { result ≡ record { sides = 0; parts = 0 } }
 {
     LevelSize { sides: 0, parts: 0 }
-}
-
-pub fn tree(operand: Operand) -> TyExp
-    ensures { result ≡ tree_of operand }
-{
-    match operand {
-        Operand::Alone(ty) => ty,
-        Operand::Applied(arguments, constructors) => TyExp::Apply(arguments, constructors),
-    }
-}
-
-#[tactic(auto, unfolding(crate::specs::Machine::with_constructor))]
-fn with_constructor(alloc: Global, operand: Operand, place: u32) -> Result<Operand, NoMemory>
-    ensures { IfOk result (λ a. a ≡ machine.with_constructor operand place) }
-{
-    match operand {
-        Operand::Alone(ty) => Ok(Operand::Applied(one(alloc, ty)?, one(alloc, place)?)),
-        Operand::Applied(arguments, mut constructors) => {
-            constructors.push(place)?;
-            Ok(Operand::Applied(arguments, constructors))
-        }
-    }
 }
 
 // The last so many types, and one more, as a tuple: they are taken off.
@@ -78,11 +58,43 @@ pub fn whole(types: &mut Stack<TyExp>, level: LevelSize, last: TyExp) -> Result<
     ensures ty { IfOk result (λ ty. ty ≡ machine.whole (level_of level types.old) last) }
     ensures rest { OnOk result (types.new ≡ before_level level types.old) }
 {
+    if level.sides == 0 {
+        if level.parts == 0 {
+            return Ok(last);
+        }
+    }
     let last = tuple(types, level.parts, last)?;
     arrows(types, level.sides, last)
 }
 
 impl Reader {
+    /// The operand, where it is no application: it is taken out.
+    pub fn take_operand(&mut self) -> TyExp
+        ensures operand { result ≡ self.old.operand }
+        ensures levels { stack_of self.new ≡ stack_of self.old }
+    {
+        mem::replace(&mut self.operand, TyExp::Var(0))
+    }
+
+    /// The operand, where it is an application: it is taken out.
+    pub fn take_applied(&mut self, alloc: Global) -> TyExp
+        ensures operand { result ≡ tree_of (Applied self.old.arguments self.old.constructors) }
+        ensures levels { stack_of self.new ≡ stack_of self.old }
+    {
+        let arguments = mem::replace(&mut self.arguments, List::new(alloc));
+        let constructors = mem::replace(&mut self.constructors, List::new(alloc));
+        TyExp::Apply(arguments, constructors)
+    }
+
+    // Begins the constructors behind the arguments.
+    fn applied(&mut self, alloc: Global, place: u32) -> Result<(), NoMemory>
+        ensures { OnOk result (state_of self.new ≡ machine.Have (stack_of self.old) (Applied self.old.arguments (place ∷ []))) }
+    {
+        self.constructors = one(alloc, place)?;
+        self.stage = Stage::HasApplied;
+        Ok(())
+    }
+
     fn with_part(&mut self, part: TyExp) -> Result<(), NoMemory>
         ensures { OnOk result (state_of self.new ≡ machine.Want (machine.with_part (stack_of self.old) part)) }
     {
@@ -150,12 +162,13 @@ impl Reader {
             (levels_of self.old.around self.old.level (before_last count self.old.types) self.old.fields) (last_of count self.old.types) last) }
     {
         if self.types.has_none(count) {
-            self.stage = Stage::Has(Operand::Alone(last));
+            self.operand = last;
+            self.stage = Stage::HasType;
             return Ok(());
         }
         self.types.push(last)?;
-        let arguments = self.types.take_last(one_more(count)?)?;
-        self.stage = Stage::WantsTycon(arguments);
+        self.arguments = self.types.take_last(one_more(count)?)?;
+        self.stage = Stage::WantsTycon;
         Ok(())
     }
 
@@ -187,7 +200,8 @@ impl Reader {
                 self.fields.push(FieldExp { label, ty })?;
                 let fields = self.fields.take_last(one_more(count)?)?;
                 self.level = outer;
-                self.stage = Stage::Has(Operand::Alone(TyExp::Fields(fields)));
+                self.operand = TyExp::Fields(fields);
+                self.stage = Stage::HasType;
                 Ok(true)
             }
         }
@@ -199,7 +213,8 @@ impl Reader {
     {
         match sort {
             Sort::Variable => {
-                self.stage = Stage::Has(Operand::Alone(TyExp::Var(place)));
+                self.operand = TyExp::Var(place);
+                self.stage = Stage::HasType;
                 Ok(true)
             }
             Sort::Reserved(Word::KwLParen) => {
@@ -219,8 +234,8 @@ impl Reader {
         ensures { IfOk result (λ can. taken can (state_of self.new) ≡ machine.want (stack_of self.old) place sort) }
     {
         if sort.is_long_tycon() {
-            let operand = Operand::Applied(List::new(alloc), one(alloc, place)?);
-            self.stage = Stage::Has(operand);
+            self.arguments = List::new(alloc);
+            self.applied(alloc, place)?;
             Ok(true)
         } else {
             self.begin(place, sort)
@@ -247,21 +262,33 @@ impl Reader {
         }
     }
 
-    #[tactic(auto, unfolding(crate::specs::Machine::have))]
-    pub fn have(
-        &mut self,
-        alloc: Global,
-        operand: Operand,
-        place: u32,
-        sort: Sort,
-    ) -> Result<bool, NoMemory>
-        ensures { IfOk result (λ can. taken can (state_of self.new) ≡ machine.have (stack_of self.old) operand place sort) }
+    // Hands over a token behind a type variable, a record or a type in parentheses.
+    #[tactic(auto, unfolding(crate::specs::Machine::have, crate::specs::Machine::with_constructor))]
+    pub fn have_type(&mut self, alloc: Global, place: u32, sort: Sort) -> Result<bool, NoMemory>
+        ensures { IfOk result (λ can. taken can (state_of self.new) ≡ machine.have (stack_of self.old) (Alone self.old.operand) place sort) }
     {
+        let operand = self.take_operand();
         if sort.is_long_tycon() {
-            self.stage = Stage::Has(with_constructor(alloc, operand, place)?);
+            self.arguments = one(alloc, operand)?;
+            self.applied(alloc, place)?;
             Ok(true)
         } else {
-            self.leave(tree(operand), sort)
+            self.leave(operand, sort)
+        }
+    }
+
+    // Hands over a token behind a constructor.
+    #[tactic(auto, unfolding(crate::specs::Machine::have, crate::specs::Machine::with_constructor))]
+    pub fn have_applied(&mut self, alloc: Global, place: u32, sort: Sort) -> Result<bool, NoMemory>
+        ensures { IfOk result (λ can. taken can (state_of self.new) ≡ machine.have (stack_of self.old) (Applied self.old.arguments self.old.constructors) place sort) }
+    {
+        if sort.is_long_tycon() {
+            self.constructors.push(place)?;
+            self.stage = Stage::HasApplied;
+            Ok(true)
+        } else {
+            let operand = self.take_applied(alloc);
+            self.leave(operand, sort)
         }
     }
 
@@ -275,8 +302,8 @@ impl Reader {
         }
         match sort {
             Sort::Reserved(Word::KwRBrace) => {
-                let record = TyExp::Fields(List::new(alloc));
-                self.stage = Stage::Has(Operand::Alone(record));
+                self.operand = TyExp::Fields(List::new(alloc));
+                self.stage = Stage::HasType;
                 true
             }
             _ => false,
@@ -311,18 +338,11 @@ impl Reader {
     }
 
     #[tactic(auto, unfolding(crate::specs::Machine::tycon))]
-    pub fn tycon(
-        &mut self,
-        alloc: Global,
-        arguments: List<TyExp>,
-        place: u32,
-        sort: Sort,
-    ) -> Result<bool, NoMemory>
-        ensures { IfOk result (λ can. taken can (state_of self.new) ≡ machine.tycon (stack_of self.old) arguments place sort) }
+    pub fn tycon(&mut self, alloc: Global, place: u32, sort: Sort) -> Result<bool, NoMemory>
+        ensures { IfOk result (λ can. taken can (state_of self.new) ≡ machine.tycon (stack_of self.old) self.old.arguments place sort) }
     {
         if sort.is_long_tycon() {
-            let operand = Operand::Applied(arguments, one(alloc, place)?);
-            self.stage = Stage::Has(operand);
+            self.applied(alloc, place)?;
             Ok(true)
         } else {
             Ok(false)

@@ -1,4 +1,4 @@
-use Rattle.std.proofs.Common.{sym, ap, ◌∙◌, arith}
+use Rattle.std.proofs.Common.{arith}
 use Rattle.ty_parser.proofs.Pieces.{depth_is}
 use Rattle.ty_parser.proofs.reader.Reader.depth.Goals as goal
 
