@@ -7,7 +7,7 @@ use Rattle.sig_base.specs.Faults.{Rose}
 use Rattle.sig_base.specs.FileMap.{FileMap}
 use Rattle.search_core.specs.declared.refusals.LoadRefusal.TheVariants as load
 use Rattle.search_core.specs.Loading.{FailsAt}
-use Rattle.isosearch.specs.Ending.{Completes, EndsAsDue, EndsExactly, EndsUnread, EndsWith, Decides, IfUnread, IsAnswered, IsCutShort, IsDecided, NoneRose, outcome_of, reported}
+use Rattle.isosearch.specs.Ending.{Completes, EndsAsDue, EndsExactly, EndsUnread, EndsWith, Decides, IfUnread, IsCutShort, IsDecided, NoneRose, outcome_of, reported}
 use Rattle.isosearch.specs.Lines.{Says}
 use Rattle.isosearch.specs.Outcome.{Due, Outcome}
 use Rattle.isosearch.specs.Words.{Command}

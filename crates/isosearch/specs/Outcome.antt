@@ -1,5 +1,5 @@
 -- What is due for a command over files that are told, or over any bytes where they aren't.
-use Rattle.std.specs.Prelude.{ℕ, List, [], ◌∷◌, Option, Result, Ok, Err, slice_index_or}
+use Rattle.std.specs.Prelude.{ℕ, List, [], ◌∷◌, Option, Ok, Err, slice_index_or}
 use Rattle.sig_base.specs.FileMap.{FileMap}
 use Rattle.type_core.specs.declared.library.Library.{Library}
 use Rattle.type_core.specs.declared.ty.Scheme.{Scheme}
