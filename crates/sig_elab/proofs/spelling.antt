@@ -1,4 +1,6 @@
-pub mod Spelled
-pub mod Values
+pub mod LongNames
+pub mod Sorts
+pub mod Tokens
+pub mod Types
 pub mod Descriptions
 pub mod Files
