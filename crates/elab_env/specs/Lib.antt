@@ -1,5 +1,4 @@
 pub mod Avoids
-pub mod Lacks
 pub mod Parameters
 pub mod Realizations
 pub mod Names

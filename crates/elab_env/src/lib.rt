@@ -8,7 +8,6 @@
 
 mod denoting;
 mod externals;
-mod lacking;
 mod laws;
 mod name_table;
 mod names;

@@ -122,7 +122,7 @@ met_more texts at text other before within here was =
     ∙ ap (place_of (bytes_eq other)) (sym (take_more texts at [] within))
 
 -- ---- the front of a list
-pub map_some : (o : Option ℕ) (p : ℕ) → option_map (λ place. suc place) o ≡ Some p → (q : ℕ) × (o ≡ Some q) × (p ≡ suc q)
+map_some : (o : Option ℕ) (p : ℕ) → option_map (λ place. suc place) o ≡ Some p → (q : ℕ) × (o ≡ Some q) × (p ≡ suc q)
 map_some None p e = cc
 map_some (Some q) p e = (q, refl, cc)
 

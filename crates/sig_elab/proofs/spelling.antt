@@ -1,6 +1,4 @@
-pub mod LongNames
-pub mod Sorts
-pub mod Tokens
-pub mod Types
+pub mod Spelled
+pub mod Values
 pub mod Descriptions
 pub mod Files

@@ -15,11 +15,13 @@ use Rattle.sig_parser.specs.declared.tree.ValDesc.{ValDesc}
 use Rattle.sig_parser.specs.declared.tree.WherePart.{WherePart}
 use Rattle.sig_parser.specs.Grammar.{Separated, one, more, Named, named, Typed, typed, TyVar, tyvar, TyVarSeq, no_variables, variable, variables, Value, value, Constructor, constructor, Abbreviation, without_type, with_type, Con, constant, carrying, DatDesc, datdesc, Part, part, Wheres, no_parts, parts, Parts, by_where, by_and, name_of, Names, two_names, more_names, Equated, equated}
 use Rattle.elab_types.specs.Sources.{text_at}
-use Rattle.elab_rules.specs.Spelling as spelling
-use Rattle.elab_rules.specs.Spelling.{IsSpelledType, IsSpelledValue, IsSpelledTycon, IsSpelledConstructor, IsSpelledDatatype, IsSpelledPart, IsSpelledSignature, AreSpelledSignatures}
-use Rattle.sig_elab.proofs.spelling.Sorts.{constructor_text, type_text, value_text}
-use Rattle.sig_elab.proofs.spelling.Tokens.{HaveTexts}
-use Rattle.sig_elab.proofs.spelling.Types.{type_spelled}
+use Rattle.sig_elab.proofs.spelling.Spelled as spelling
+use Rattle.elab_types.specs.Spelling.{IsSpelledType}
+use Rattle.sig_elab.proofs.spelling.Spelled.{IsSpelledValue, IsSpelledTycon, IsSpelledConstructor, IsSpelledDatatype, IsSpelledPart, IsSpelledSignature, AreSpelledSignatures}
+use Rattle.elab_types.proofs.spelling.Sorts.{constructor_text, type_text}
+use Rattle.sig_elab.proofs.spelling.Values.{value_text}
+use Rattle.elab_types.proofs.spelling.Tokens.{HaveTexts}
+use Rattle.elab_types.proofs.spelling.Types.{type_spelled}
 
 module _ (texts : List (List ℕ)) where
   -- where P holds of each phrase of a kind, it holds of all that stand with a word between them

@@ -16,10 +16,10 @@ use Rattle.sig_parser.specs.declared.tree.TopDec.{TopDec}
 use Rattle.sig_parser.specs.Files.{File}
 use Rattle.sig_parser.specs.Grammar.{Sig, sigexp, Base, body, name, Specs, no_specs, more_specs, semicolon, Described, val, types, eqtype, datatype, replica, exception, structure, include_one, include_names, sharing_type, sharing, Bindings, one_binding, more_bindings, Binding, binding, Declared, signature, top_structure, TopDecs, no_decs, more_decs, top_semicolon}
 use Rattle.elab_types.specs.Sources.{text_at, texts_of}
-use Rattle.elab_rules.specs.Spelling as spelling
-use Rattle.elab_rules.specs.Spelling.{NamesUnit, IsSpelledValue, IsSpelledTycon, IsSpelledConstructor, IsSpelledDatatype, IsSpelledSpec, AreSpelledSpecs, IsSpelledBase, IsSpelledSignature, AreSpelledBindings, IsSpelledDeclaration, IsSpelledFile}
-use Rattle.sig_elab.proofs.spelling.Sorts.{type_text, unit_text}
-use Rattle.sig_elab.proofs.spelling.Tokens.{HaveTexts, file_texts}
+use Rattle.sig_elab.proofs.spelling.Spelled as spelling
+use Rattle.sig_elab.proofs.spelling.Spelled.{NamesUnit, IsSpelledValue, IsSpelledTycon, IsSpelledConstructor, IsSpelledDatatype, IsSpelledSpec, AreSpelledSpecs, IsSpelledBase, IsSpelledSignature, AreSpelledBindings, IsSpelledDeclaration, IsSpelledFile}
+use Rattle.elab_types.proofs.spelling.Sorts.{type_text, unit_text}
+use Rattle.elab_types.proofs.spelling.Tokens.{HaveTexts, file_texts}
 use Rattle.sig_elab.proofs.spelling.Descriptions.{separated_spelled, equated_read, value_spelled, tycon_spelled, abbreviation_spelled, constructor_spelled, datatype_spelled, wheres_spelled, names_spelled}
 
 module _ (texts : List (List ℕ)) where
