@@ -19,7 +19,3 @@ gives_same o p result same gives = subst (λ q. Gives q result) (sym same) gives
 pub fails_then : {A B : Type 0} (o : Outcome QueryWhy A) (next : A → Outcome QueryWhy B) (e : Stop) → Gives {A = A} o (Err e) → Gives {A = B} (and_then o next) (Err e)
 fails_then o next (stop.Failed why token) gives = ap (λ q. and_then q next) gives
 fails_then o next stop.NoMemory gives = tt
-
-pub fails_whole : {A B : Type 0} (o : Outcome QueryWhy A) (next : A → Outcome QueryWhy B) (whole : Outcome QueryWhy B) (result : Result B Stop) (e : Stop)
-    → and_then o next ≡ whole → result ≡ Err e → Gives {A = A} o (Err e) → Gives whole result
-fails_whole o next whole result e is handed gives = subst (λ r. Gives whole r) (sym handed) (subst (λ q. Gives q (Err e)) is (fails_then o next e gives))

@@ -1,13 +1,11 @@
 -- What the refusal of a text tells of a query.
-use Rattle.std.proofs.Common.{◌≡◌, ◌≤◌, ℕ, List, length, refl, sym, ap, ◌∙◌, arith}
+use Rattle.std.proofs.Common.{◌≡◌, ◌≤◌, ℕ, List, length, refl, arith}
 use Rattle.std.specs.Prelude.{Result, Ok, Err}
-use Rattle.sml_lexer.specs.declared.token.Token.{Token}
 use Rattle.type_core.specs.declared.library.Library.{Library}
 use Rattle.type_core.specs.declared.ty.Scheme.{Scheme}
 use Rattle.elab_types.specs.declared.fault.TextRefusal.{TextRefusal}
 use Rattle.elab_types.specs.declared.fault.TextRefusal.TheVariants as text
-use Rattle.elab_types.specs.Outcome.{Outcome, failed}
-use Rattle.elab_types.specs.Stages.{Flaw, IsWithin as IsTextWithin, Reads, Tells, flaw_of_text, placed, refused, start_of}
+use Rattle.elab_types.specs.Stages.{Flaw, IsWithin as IsTextWithin, Reads, Tells, flaw_of_text, refused}
 use Rattle.query_parser.specs.declared.refusal.QueryRefusal.{QueryRefusal}
 use Rattle.query_parser.specs.declared.refusal.QueryRefusal.TheVariants as refusal
 use Rattle.query_parser.specs.declared.refusal.QueryWhy.{QueryWhy}
@@ -21,10 +19,6 @@ told text.NoMemory = refl
 pub refused_within : (bytes : List ℕ) (t : TextRefusal) → length bytes ≤ 4194304 → IsTextWithin bytes t → IsWithin bytes (refusal_of t)
 refused_within bytes (text.Refused wrong place) few within = (within, omega (arith, within, few))
 refused_within bytes text.NoMemory few within = tt
-
--- the failure of a type expression, at the byte of its token
-pub placed_failure : {Meaning : Type 0} (bytes : List ℕ) (tokens : List Token) (due : Outcome QueryWhy Meaning) (why : QueryWhy) (token place : ℕ) → due ≡ failed why token → place ≡ start_of bytes tokens token → placed bytes tokens due ≡ refused why place
-placed_failure bytes tokens due why token place is at = ap (placed bytes tokens) is ∙ ap (refused why) (sym at)
 
 -- what tells what comes, tells exactly that, where one thing comes
 pub exactly : (comes : Result Scheme (Flaw QueryWhy) → Type 0) → ((a b : Result Scheme (Flaw QueryWhy)) → comes a → comes b → a ≡ b) → (result : Result Scheme QueryRefusal) → Tells flaw_of comes result

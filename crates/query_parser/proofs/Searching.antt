@@ -1,44 +1,16 @@
 -- Places that are looked for from the front of a list on.
-use Rattle.std.proofs.Common.{◌≡◌, ℕ, zero, suc, ◌+◌, ◌<◌, ◌≤◌, Bool, true, false, if◌then◌else◌, List, [], ◌∷◌, ◌++◌, length, drop, get_or, slice_get, Option, Some, None, refl, sym, ap, ◌∙◌, arith}
+use Rattle.std.proofs.Common.{◌≡◌, ℕ, zero, suc, ◌+◌, Bool, true, false, if◌then◌else◌, List, [], ◌∷◌, ◌++◌, drop, slice_get, Option, Some, None, refl, ap, ◌∙◌}
 use Rattle.std.specs.Option.{option_map}
-use Rattle.std.proofs.lemmas.List.{drop_all}
 use Rattle.elab_types.specs.Finding.{place_of}
-use Rattle.elab_types.proofs.Lists.{dropped}
 
 -- so many further on
 abbrev pub further_on : ℕ → Option ℕ → Option ℕ
 further_on i place = option_map (λ p. i + p) place
 
-at_first : (place : Option ℕ) → place ≡ further_on 0 place
-at_first None = refl
-at_first (Some p) = let e : p ≡ 0 + p = omega arith in ap Some e
-
-one_on : (i : ℕ) (place : Option ℕ) → further_on i (option_map (λ p. suc p) place) ≡ further_on (i + 1) place
-one_on i None = refl
-one_on i (Some p) = let e : i + suc p ≡ i + 1 + p = omega arith in ap Some e
-
 module _ {A : Type 0} (test : A → Bool) (xs : List A) where
   -- what the search has come to: none of the first i is the one
   abbrev pub IsSearched : ℕ → Type 0
   IsSearched i = place_of test xs ≡ further_on i (place_of test (drop i xs))
-
-  pub search_starts : IsSearched 0
-  search_starts = at_first (place_of test xs)
-
-  turn : (i : ℕ) (x d : A) → i < length xs → x ≡ get_or xs i d → IsSearched i → place_of test xs ≡ further_on i (if test x then Some 0 else option_map (λ p. suc p) (place_of test (drop (i + 1) xs)))
-  turn i x d within is so_far = so_far ∙ ap (λ ys. further_on i (place_of test ys)) (dropped xs i x d within is)
-
-  pub found_here : (i : ℕ) (x d : A) → i < length xs → x ≡ get_or xs i d → test x ≡ true → IsSearched i → Some i ≡ place_of test xs
-  found_here i x d within is passes so_far =
-      let e : i + 0 ≡ i = omega arith in
-      sym (turn i x d within is so_far ∙ ap (λ b. further_on i (if b then Some 0 else option_map (λ p. suc p) (place_of test (drop (i + 1) xs)))) passes ∙ ap Some e)
-
-  pub search_goes_on : (i : ℕ) (x d : A) → i < length xs → x ≡ get_or xs i d → test x ≡ false → IsSearched i → IsSearched (i + 1)
-  search_goes_on i x d within is fails so_far =
-      turn i x d within is so_far ∙ ap (λ b. further_on i (if b then Some 0 else option_map (λ p. suc p) (place_of test (drop (i + 1) xs)))) fails ∙ one_on i (place_of test (drop (i + 1) xs))
-
-  pub found_nowhere : (i : ℕ) → length xs ≤ i → IsSearched i → None ≡ place_of test xs
-  found_nowhere i past so_far = sym (so_far ∙ ap (λ ys. further_on i (place_of test ys)) (drop_all i xs past))
 
 -- what stands at the place that is found
 later : {A : Type 0} (xs : List A) (place : Option ℕ) (n : ℕ) (P : A → Type 0) → option_map (λ p. suc p) place ≡ Some n → ((m : ℕ) → place ≡ Some m → (x : A) × (slice_get xs m ≡ Some x) × P x)
