@@ -22,7 +22,7 @@ use Rattle.elab_env.specs.Avoids.{avoid_field_step, avoid_step, avoids}
 use Rattle.elab_env.specs.Realizations.{field_replaced, replace_field_step, replace_step, replaced}
 use Rattle.elab_env.proofs.Parts.{Collects, GoesInside, IsPartwise, at_type}
 
-map_same : {A B : Type 0} (f g : A → B) → ((x : A) → f x ≡ g x) → (xs : List A) → map f xs ≡ map g xs
+pub map_same : {A B : Type 0} (f g : A → B) → ((x : A) → f x ≡ g x) → (xs : List A) → map f xs ≡ map g xs
 map_same f g e [] = refl
 map_same f g e (x ∷ xs) = ap₂ ◌∷◌ (e x) (map_same f g e xs)
 

@@ -6,12 +6,6 @@ use Rattle.std.specs.HashMap.{HashMap, UpdatesBy, get_by}
 use Rattle.std.specs.Map.{AreApart, IsKeyTest, KeepsOthers, lookup}
 use Rattle.type_core.specs.declared.names.TypeName.{TypeName}
 use Rattle.elab_env.specs.Externals.{number_with}
-use Rattle.elab_env.specs.Names.{is_external}
-
--- ---- a name that isn't the first of its path and arity, or isn't external, changes nothing
-pub kept_number : (name : TypeName) (n : ℕ) (path : List ℕ) (arity : ℕ) (o : Option ℕ) → (o ≡ None → is_external path arity name ≡ false) → o ≡ number_with name n path arity o
-kept_number name n path arity (Some m) h = refl
-kept_number name n path arity None h = sym (ap (λ b. if b then Some n else None) (h refl))
 
 -- ---- the first external name of its path and arity
 pub new_number : (name : TypeName) (n : ℕ) (path : List ℕ) (arity : ℕ) (o : Option ℕ) → name.external ≡ true

@@ -60,12 +60,6 @@ of_lesser P a b n e p q = elim (cases_lt a b) [
   | inr l ↦ subst P (let same : b ≡ n = omega (arith, l, e) in same) q
 ]
 
-pub of_greater : (P : ℕ → Type 0) (a b n : ℕ) → n ≡ max a b → P a → P b → P n
-of_greater P a b n e p q = elim (cases_lt a b) [
-  | inl l ↦ subst P (let same : b ≡ n = omega (arith, l, e) in same) q
-  | inr l ↦ subst P (let same : a ≡ n = omega (arith, l, e) in same) p
-]
-
 pub lesser_differs : (a b m n : ℕ) → (a ≡ b → ⊥) → m ≡ min a b → n ≡ max a b → m ≡ n → ⊥
 lesser_differs a b m n apart e f same = apart (elim (cases_lt a b) [
   | inl l ↦ omega (arith, l, e, f, same)

@@ -8,6 +8,7 @@ pub mod ParameterLists
 pub mod Placed
 pub mod Kept
 pub mod Meant
+pub mod Used
 pub mod Walked
 pub mod Joined
 pub mod Counted

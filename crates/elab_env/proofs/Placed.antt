@@ -1,5 +1,5 @@
 -- What stands at the places that are held for names.
-use Rattle.std.proofs.Common.{◌≡◌, ℕ, zero, suc, ◌+◌, ◌<◌, ◌≤◌, Bool, true, false, ◌==◌, ◌||◌, if◌then◌else◌, List, [], ◌∷◌, ◌++◌, length, drop, slice_get, set, replicate, Option, Some, None, is_some, not, refl, sym, ap, ap₂, ◌∙◌, subst, arith, length-drop, length-append, inl, inr}
+use Rattle.std.proofs.Common.{◌≡◌, ℕ, zero, suc, ◌+◌, ◌<◌, ◌≤◌, Bool, true, false, ◌==◌, ◌||◌, if◌then◌else◌, List, [], ◌∷◌, ◌++◌, length, drop, slice_get, set, Option, Some, None, is_some, not, refl, sym, ap, ap₂, ◌∙◌, subst, arith, length-drop, length-append, inl, inr}
 use Rattle.std.proofs.lemmas.List.{drop-drop, drop-append-le}
 use Rattle.std.proofs.lemmas.Bool.{lt-leb, le-leb, eq-eqb, eqb-true, ne_eqb, cases_lt, cases_eq}
 use Rattle.std.proofs.lemmas.Option.{slice_get_past}
@@ -160,17 +160,6 @@ pub placed_added : (rs : List Realization) (places : List (Option ℕ)) → AreP
 placed_added rs places h n from = ap (from_on from) (held_added places n) ∙ h n from
 
 -- ---- no realizations
-none_held_at_all : (count n : ℕ) → place_held (slice_get (replicate count None) n) ≡ None
-none_held_at_all zero n = refl
-none_held_at_all (suc count) zero = refl
-none_held_at_all (suc count) (suc n) = none_held_at_all count n
-
-nothing_left : (from n : ℕ) → place_in from n (drop from []) ≡ None
-nothing_left from n = ap (place_in from n) (drop_of_length-le [] (omega arith))
-
-pub placed_none : (count : ℕ) → ArePlaced [] (replicate count None)
-placed_none count n from = ap (from_on from) (none_held_at_all count n) ∙ sym (nothing_left from n)
-
 pub none_there : (o : Option ℕ) (none : Bool) → is_some o ≡ not none → none ≡ not (is_some o)
 none_there o true e = sym (ap not e)
 none_there o false e = sym (ap not e)

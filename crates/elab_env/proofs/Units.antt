@@ -1,5 +1,5 @@
 -- The unit type is a type over all names, without variables, and mentions no name.
-use Rattle.std.proofs.Common.{◌≡◌, ℕ, true, false, List, [], ap, ◌∙◌}
+use Rattle.std.proofs.Common.{ℕ, false, List, [], ap, ◌∙◌}
 use Rattle.type_core.specs.declared.ty.Ty.TheVariants as ty
 use Rattle.type_core.specs.declared.names.TypeName.{TypeName}
 use Rattle.type_core.specs.Substitution.{allows}

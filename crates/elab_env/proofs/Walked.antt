@@ -46,8 +46,8 @@ walked_con names rs from t name last ts done place are over e d followed =
     ∙ sym (ap (resolved (drop from rs)) e ∙ resolved_con names (drop from rs) name ts (later_realizations names from rs are) over_con)
 
 -- ---- what an application's arguments number
-pub takes_done : (names : List TypeName) (rs : List Realization) (t : Ty) (name : NameId) (ts done : List Ty) → IsOver names t → t ≡ ty.Con name ts → done ≡ map (resolved rs) ts → IsTrue (takes (slice_get names name.0) (length done))
-takes_done names rs t name ts done over e d = ap (takes (slice_get names name.0)) (ap length d ∙ length-map ts (resolved rs)) ∙ takes_arguments names name ts (subst (IsOver names) e over)
+pub takes_done : (names : List TypeName) (t : Ty) (name : NameId) (ts done : List Ty) → IsOver names t → t ≡ ty.Con name ts → length done ≡ length ts → IsTrue (takes (slice_get names name.0) (length done))
+takes_done names t name ts done over e count = ap (takes (slice_get names name.0)) count ∙ takes_arguments names name ts (subst (IsOver names) e over)
 
 -- ---- weights
 module _ (w : ℕ → ℕ) where

@@ -1,4 +1,5 @@
 pub mod Avoids
+pub mod Lacks
 pub mod Parameters
 pub mod Realizations
 pub mod Names

@@ -8,6 +8,7 @@
 
 mod denoting;
 mod externals;
+mod lacking;
 mod laws;
 mod name_table;
 mod names;

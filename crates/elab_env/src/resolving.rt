@@ -1,12 +1,14 @@
 // Types with the realized names replaced.
-ghost use Rattle.std.specs.Prelude.{◌≡◌, IfOk, IsTrue, drop, map};
+ghost use Rattle.std.specs.Prelude.{◌≡◌, IfOk, IsTrue, drop, length, map};
 ghost use Rattle.type_core.specs.Lists.{all_true};
+ghost use Rattle.type_core.specs.Substitution.{substituted};
 ghost use Rattle.type_core.specs.Types.{IsOver, is_over};
 ghost use Rattle.elab_env.specs.Meaning.{IsFollowed};
 ghost use Rattle.elab_env.specs.Realizations.{field_resolved, resolved};
 ghost use Rattle.elab_env.specs.Sound.{IsSound};
 
 use crate::denoting::denoted_name;
+use crate::lacking::lacks;
 use crate::name_table::NameTable;
 use sig_base::{Boxed, List, NoMemory, Text};
 use std::alloc::Global;
@@ -41,13 +43,17 @@ pub fn resolve_from(alloc: Global, t: &Ty, table: &NameTable, from: usize) -> Re
     match t {
         Ty::Var(v) => Ok(Ty::Var(*v)),
         Ty::Con(name, arguments) => {
-            let arguments = resolve_all(alloc, arguments.as_slice(), table, from)?;
             let (name, place) = follow(*name, table, from);
+            let arguments = arguments.as_slice();
             match place {
-                None => Ok(Ty::Con(name, arguments)),
+                None => {
+                    let arguments = resolve_all(alloc, arguments, table, from)?;
+                    Ok(Ty::Con(name, arguments))
+                }
                 Some(place) => {
                     let body = &table.realization(place).fun.body;
                     let body = resolve_from(alloc, body, table, place + 1)?;
+                    let arguments = resolve_used(alloc, arguments, &body, table, from)?;
                     substitute(alloc, &body, &arguments)
                 }
             }
@@ -83,6 +89,32 @@ fn resolve_all(
     let mut done = List::new(alloc);
     for part in parts {
         done.push(resolve_from(alloc, part, table, from)?)?;
+    }
+    Ok(done)
+}
+
+// The arguments of a body, resolved where it uses them and unit where it drops them: what is dropped may be
+// larger than memory.
+#[cycle(resolve)]
+fn resolve_used(
+    alloc: Global,
+    arguments: &[Ty],
+    body: &Ty,
+    table: &NameTable,
+    from: usize,
+) -> Result<List<Ty>, NoMemory>
+    requires over { IsTrue (all_true (map (is_over table.now.names) arguments.now)) }
+    ensures count { IfOk result (λ r. length r ≡ length arguments.now) }
+    ensures value { IfOk result (λ r. substituted r body.now ≡ substituted (map (resolved (drop from table.now.realizations)) arguments.now) body.now) }
+{
+    let mut done = List::new(alloc);
+    for (n, argument) in arguments.iter().enumerate() {
+        let argument = if lacks(body, n) {
+            Ty::Tup(List::new(alloc))
+        } else {
+            resolve_from(alloc, argument, table, from)?
+        };
+        done.push(argument)?;
     }
     Ok(done)
 }

@@ -39,9 +39,6 @@ said_part before now later piece left all said (count, short, part) =
     omega (arith, ap length said.whole, length-append {A = ℕ} said.front (piece ++ left), length-append {A = ℕ} piece left) in
     (length said.front + count, longer, rw cut (Appends-trans before now later said.front (take count piece) said.written part))
 
-pub said_all : (before now : Option (List ℕ)) (all : List ℕ) → Said before now [] all → Appends before now all
-said_all before now all said = rw (← said.whole, append-nil) said.written
-
 -- the pieces from one place on begin with the one there
 pieces_from : (pieces : List (Bor (List ℕ))) (i : ℕ) (d : Bor (List ℕ)) → i < length pieces
     → concat (map (λ piece. piece.now) (drop i pieces)) ≡ (get_or pieces i d).now ++ concat (map (λ piece. piece.now) (drop (i + 1) pieces))

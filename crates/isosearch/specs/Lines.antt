@@ -4,8 +4,8 @@ use Rattle.std.specs.Io.KnownBytes.{Appends}
 use Rattle.sig_base.specs.Faults.{Rose}
 use Rattle.sig_base.specs.Writing.{AppendsPart}
 use Rattle.sml_lexer.specs.Places.{line_at, column_at}
-use Rattle.sig_elab.specs.declared.refusal.Why.{Why}
-use Rattle.sig_elab.specs.declared.refusal.Why.TheVariants as why
+use Rattle.elab_rules.specs.declared.refusal.Why.{Why}
+use Rattle.elab_rules.specs.declared.refusal.Why.TheVariants as why
 use Rattle.query_parser.specs.declared.refusal.QueryWhy.{QueryWhy}
 use Rattle.query_parser.specs.declared.refusal.QueryWhy.TheVariants as query
 use Rattle.search_core.specs.declared.refusals.Fault.{Fault}
@@ -57,7 +57,6 @@ why_text why.TypeTooHigh = codes "type is higher than 200"
 why_text why.NormalTooLarge = codes "normal form has more than 8000 nodes"
 why_text why.TooManyMembers = codes "more than 100000 members"
 why_text why.LibraryTooLarge = codes "library is too large"
-why_text why.NotBuilt = codes "not built yet"
 
 -- what is said of a fault of a file
 abbrev pub fault_text : Fault → List ℕ

@@ -40,7 +40,6 @@ fn why_text(why: Why) -> &'static str
         Why::NormalTooLarge => "normal form has more than 8000 nodes",
         Why::TooManyMembers => "more than 100000 members",
         Why::LibraryTooLarge => "library is too large",
-        Why::NotBuilt => "not built yet",
     }
 }
 

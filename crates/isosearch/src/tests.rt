@@ -136,13 +136,24 @@ fn tells_commands(rt: HostRuntime) -> Result<(), Fail> {
     Ok(())
 }
 
-// Words, and how the run ends over both files.
+// Two files, words, and how the run ends.
 #[test]
 fn takes_files_in_turn(rt: HostRuntime) -> Result<(), Fail> {
-    let a = "signature A = sig type 'a t type u = int * bool val f : u -> int t end";
-    let b = "signature B = sig val g : int * bool -> int val h : bool -> int -> int end";
+    let ab = both(
+        "signature A = sig type 'a t type u = int * bool val f : u -> int t end",
+        "signature B = sig val g : int * bool -> int val h : bool -> int -> int end",
+    );
+    let used = both(
+        "structure S : sig type t end signature A = sig type u val x : u end",
+        "structure B : A where type u = S.t list signature D = A",
+    );
+    let late = both(
+        "structure S : sig type t end",
+        "signature B = sig val x : S.t * int C.t end",
+    );
     let rows = [
         (
+            ab,
             ["list", "F", "G"].as_slice(),
             0,
             "val A.f : int * bool -> int A.t
@@ -153,39 +164,79 @@ val B.h : bool -> int -> int
             "",
         ),
         (
+            ab,
             &["iso", "A.u -> int", "G", "F"],
             0,
             "val B.g : int * bool -> int\nval B.h : bool -> int -> int\n2 found\n",
             "",
         ),
         (
+            ab,
             &["same", "A.u -> int", "F", "G"],
             0,
             "val B.g : int * bool -> int\n1 found\n",
             "",
         ),
         (
+            ab,
             &["iso", "bool -> int -> int A.t", "F", "G"],
             0,
             "val A.f : int * bool -> int A.t\n1 found\n",
             "",
         ),
         (
+            ab,
             &["same", "A.u -> int", "G"],
             4,
             "",
             "query:1:1: unbound identifier\n",
         ),
         (
+            ab,
             &["same", "A.t", "F"],
             4,
             "",
             "query:1:1: wrong number of type arguments\n",
         ),
+        (
+            used,
+            &["list", "F", "G"],
+            0,
+            "val A.x : A.u\nval B.x : S.t list\nval D.x : D.u\n3 found\n",
+            "",
+        ),
+        (
+            used,
+            &["list", "G", "F"],
+            3,
+            "",
+            "G:1:15: unbound signature\n",
+        ),
+        (
+            late,
+            &["iso", "int C.t * S.t", "F", "G"],
+            0,
+            "val B.x : S.t * int C.t\n1 found\n",
+            "",
+        ),
+        (
+            late,
+            &["same", "S.t * C.t", "G"],
+            4,
+            "",
+            "query:1:7: wrong number of type arguments\n",
+        ),
+        (
+            late,
+            &["list", "G", "F"],
+            3,
+            "",
+            "F:1:11: identifier was used for an external type\n",
+        ),
     ];
-    for (words, status, out, err) in rows {
+    for (files, words, status, out, err) in rows {
         assert!(rt;
-            ends(rt.alloc(), words, both(a, b), status, out, err)?,
+            ends(rt.alloc(), words, files, status, out, err)?,
             "{words:?}"
         );
     }
@@ -234,6 +285,83 @@ signature B = sig type t and u = int val r : {b : u, 2 : t, a : 'y -> ''z} end",
             "val A.m : ('a * A.t) list
 val B.r : {2 : B.t, a : 'a -> ''b, b : int}
 2 found
+",
+        ),
+        (
+            "signature S = sig
+structure A : sig type 'a t val x : int t structure B : sig datatype d = D of int t end end
+val y : A.B.d * bool A.t end",
+            "val S.A.x : int S.A.t
+con S.A.B.D : int S.A.t -> S.A.B.d
+val S.y : S.A.B.d * bool S.A.t
+3 found
+",
+        ),
+        (
+            "signature T = sig type t eqtype u val f : t -> u end
+signature U = T where type t = int * bool where type u = string",
+            "val T.f : T.t -> T.u
+val U.f : int * bool -> string
+2 found
+",
+        ),
+        (
+            "signature A = sig type t val x : t end
+signature B = sig val y : bool end
+signature C = sig include A B structure D : sig include A where type t = t end end",
+            "val A.x : A.t
+val B.y : bool
+val C.x : C.t
+val C.y : bool
+val C.D.x : C.t
+5 found
+",
+        ),
+        (
+            "signature S = sig type t structure A : sig type t val x : t end
+sharing type t = A.t val y : A.t * t end",
+            "val S.A.x : S.t
+val S.y : S.t * S.t
+2 found
+",
+        ),
+        (
+            "signature A = sig type t type u val x : t * u end
+signature B = sig structure L : A structure R : A sharing L = R end
+signature C = sig structure L : A structure R : A where type u = int sharing type L.t = R.t end",
+            "val A.x : A.t * A.u
+val B.L.x : B.L.t * B.L.u
+val B.R.x : B.L.t * B.L.u
+val C.L.x : C.L.t * C.L.u
+val C.R.x : C.L.t * int
+5 found
+",
+        ),
+        (
+            "structure S :> sig eqtype t val x : t end
+structure T : sig val y : S.t list val z : (int, S.t) Map.map * int Map.map end",
+            "val S.x : S.t
+val T.y : S.t list
+val T.z : (int, S.t) Map.map * int Map.map
+3 found
+",
+        ),
+        (
+            "signature S = sig structure A : sig val = : int exception E end datatype d = datatype bool end
+structure X : S and Y : S",
+            "val S.A.= : int
+exn S.A.E : exn
+con S.false : bool
+con S.true : bool
+val X.A.= : int
+exn X.A.E : exn
+con X.false : bool
+con X.true : bool
+val Y.A.= : int
+exn Y.A.E : exn
+con Y.false : bool
+con Y.true : bool
+12 found
 ",
         ),
     ];
@@ -415,31 +543,83 @@ end",
             "signature S = sig eqtype ('a, 'b, 'a) t end",
             "1:35: type parameter repeated",
         ),
-        ("structure S : sig val x : t end", "1:11: not built yet"),
+        ("signature S = T", "1:15: unbound signature"),
+        ("signature S = sig include T end", "1:27: unbound signature"),
         (
-            "signature S = sig val x : int end signature T = S",
-            "1:49: not built yet",
+            "signature S = sig structure T : sig val x : t end end",
+            "1:45: unbound identifier",
         ),
         (
-            "signature S = sig type t end where type t = int",
-            "1:15: not built yet",
+            "signature S = sig structure A : sig end val x : A.t end",
+            "1:49: unbound identifier",
         ),
         (
-            "signature S = sig structure T : sig end end",
-            "1:29: not built yet",
+            "signature S = sig type t val x : S.t end",
+            "1:34: unbound identifier",
         ),
-        ("signature S = sig include A B end", "1:27: not built yet"),
+        (
+            "signature S = sig datatype t = datatype A.t end",
+            "1:41: unbound identifier",
+        ),
+        (
+            "structure S : sig end signature S = sig end",
+            "1:33: described twice",
+        ),
+        (
+            "signature S = sig structure A : sig end structure A : sig end end",
+            "1:51: described twice",
+        ),
+        (
+            "signature A = sig val a : int end signature B = sig val a : bool include A end",
+            "1:74: described twice",
+        ),
+        (
+            "signature A = sig val a : int end signature B = sig include A val a : bool end",
+            "1:67: described twice",
+        ),
+        (
+            "signature S = sig type t end where type u = int",
+            "1:41: unbound identifier",
+        ),
+        (
+            "signature S = sig type t = int end where type t = int",
+            "1:36: type is not flexible",
+        ),
+        (
+            "signature S = sig type 'a t end where type t = int",
+            "1:33: arities differ",
+        ),
+        (
+            "signature S = sig eqtype t end where type t = real",
+            "1:32: type does not admit equality",
+        ),
+        (
+            "signature S = sig datatype t = T end where type t = int * int",
+            "1:38: datatype needs a type name",
+        ),
         (
             "signature S = sig sharing type t = u end",
-            "1:32: not built yet",
+            "1:32: unbound identifier",
+        ),
+        (
+            "signature S = sig type t type u = int sharing type t = u end",
+            "1:56: type is not flexible",
+        ),
+        (
+            "signature S = sig type t type 'a u sharing type t = u end",
+            "1:53: arities differ",
         ),
         (
             "signature S = sig sharing A = B.C end",
-            "1:27: not built yet",
+            "1:27: unbound identifier",
         ),
         (
-            "signature S = sig val x : int A.t end",
-            "1:31: not built yet",
+            "signature S = sig structure A : sig type t = int end structure B : sig type t end sharing A = B end",
+            "1:95: type is not flexible",
+        ),
+        (
+            "signature S = sig val x : A.t end structure A : sig end",
+            "1:45: identifier was used for an external type",
         ),
     ];
     for (text, line) in rows {

@@ -7,7 +7,7 @@ use Rattle.sig_parser.specs.Files.{File}
 use Rattle.type_core.specs.declared.library.Library.{Library}
 use Rattle.elab_types.proofs.OneReading.{Lexing, OneTree, one_reading}
 use Rattle.elab_types.specs.Stages.{Flaw, Reads}
-use Rattle.sig_elab.specs.Library.{Basis, empty_basis}
+use Rattle.elab_rules.specs.Library.{Basis, empty_basis}
 use Rattle.search_core.specs.declared.refusals.Fault.{Fault}
 use Rattle.search_core.specs.declared.refusals.LoadRefusal.{LoadRefusal}
 use Rattle.search_core.specs.Files.{files_over}

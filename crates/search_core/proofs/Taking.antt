@@ -11,7 +11,7 @@ use Rattle.sig_base.specs.Reading.{Holds}
 use Rattle.sml_lexer.specs.Places.{line_at, column_at}
 use Rattle.type_core.specs.declared.library.Library.{Library}
 use Rattle.elab_types.specs.Stages.{Reads}
-use Rattle.sig_elab.specs.Library.{Basis, empty_basis, library}
+use Rattle.elab_rules.specs.Library.{Basis, empty_basis, library}
 use Rattle.search_core.specs.declared.refusals.Fault.{Fault}
 use Rattle.search_core.specs.declared.refusals.LoadRefusal.{LoadRefusal}
 use Rattle.search_core.specs.declared.refusals.LoadRefusal.TheVariants as refusal

@@ -6,9 +6,9 @@ use Rattle.elab_types.specs.declared.fault.TextRefusal.{TextRefusal}
 use Rattle.elab_types.specs.declared.fault.TextRefusal.TheVariants as no_phrase
 use Rattle.elab_types.specs.Outcome.{Outcome, failed}
 use Rattle.elab_types.specs.Stages.{Flaw, Language}
-use Rattle.sig_elab.specs.declared.refusal.Why.{Why}
-use Rattle.sig_elab.specs.Files.{elaborated}
-use Rattle.sig_elab.specs.Library.{Basis}
+use Rattle.elab_rules.specs.declared.refusal.Why.{Why}
+use Rattle.elab_rules.specs.Files.{elaborated}
+use Rattle.elab_rules.specs.Library.{Basis}
 use Rattle.sig_parser.specs.declared.tree.SourceFile.{SourceFile}
 use Rattle.sig_parser.specs.Files.{File}
 use Rattle.search_core.specs.declared.refusals.Fault.{Fault}

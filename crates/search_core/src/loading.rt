@@ -1,7 +1,7 @@
 // The library of signature files.
 ghost use Rattle.std.specs.Prelude.{◌≡◌, ◌↔◌, ◌<◌, ◌≤◌, length, IfOk, IsErrOf};
 ghost use Rattle.sig_base.specs.Faults.{NoneFell, Rose};
-ghost use Rattle.sig_elab.specs.Library.{empty_basis};
+ghost use Rattle.elab_rules.specs.Library.{empty_basis};
 ghost use Rattle.type_core.specs.ValidLibrary.{IsValidLibrary};
 ghost use Rattle.search_core.specs.Loading.{FailsAt, IfReadFault, IsDecided, IsTheOutcome, Loads, TakesFile, TakesFiles, most_files};
 

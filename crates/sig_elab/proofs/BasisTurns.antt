@@ -1,80 +1,58 @@
 -- Declarations in turn, and their identifiers.
-use Rattle.std.proofs.Common.{◌≡◌, ℕ, ◌+◌, ◌<◌, Bool, true, false, not, ◌&&◌, ◌||◌, is_some, if◌then◌else◌, List, [], ◌∷◌, ◌++◌, map, length, take, drop, get_or, bytes_eq, Option, Some, Result, Ok, Err, IsErrAnd, refl, sym, ap, ◌∙◌, subst, rules}
-use Rattle.std.proofs.lemmas.List.{map-append, take_more}
+use Rattle.std.proofs.Common.{◌≡◌, ℕ, ◌+◌, ◌<◌, ◌≤◌, Bool, true, false, not, ◌&&◌, is_some, if◌then◌else◌, List, [], ◌∷◌, ◌++◌, map, length, take, drop, get_or, bytes_eq, Option, Some, Result, Ok, Err, IsErrAnd, refl, sym, ap, ap₂, ◌∙◌, subst}
+use Rattle.std.proofs.lemmas.List.{map-append, take_all, take_more}
 use Rattle.sig_parser.specs.declared.tree.Bind.{Bind}
-use Rattle.sig_parser.specs.declared.tree.SigBase.TheFolds.{fold_out-Bind}
+use Rattle.type_core.specs.declared.library.UnitKind.{UnitKind}
 use Rattle.sig_elab.specs.declared.draft.Draft.{Draft}
-use Rattle.sig_elab.specs.declared.entry.UnitEntry.{UnitEntry}
-use Rattle.sig_elab.specs.declared.refusal.ElabRefusal.{ElabRefusal}
-use Rattle.sig_elab.specs.declared.refusal.ElabRefusal.TheVariants.{Refused, NoMemory}
-use Rattle.sig_elab.specs.declared.refusal.Why.TheVariants.{Duplicate}
-use Rattle.sig_elab.specs.declared.units.Units.{Units}
+use Rattle.elab_rules.specs.declared.entry.UnitEntry.{UnitEntry}
+use Rattle.elab_rules.specs.declared.refusal.ElabRefusal.{ElabRefusal}
+use Rattle.elab_rules.specs.declared.refusal.ElabRefusal.TheVariants.{Refused, NoMemory}
+use Rattle.elab_rules.specs.declared.refusal.Why.TheVariants.{Duplicate, LateUnit}
 use Rattle.sig_elab.specs.Elaborators.{GivesBasis}
-use Rattle.sig_elab.specs.Files.{identifiers_checked, is_new_unit}
+use Rattle.elab_rules.specs.Files.{all_bound, bindings_declared, identifiers_checked, is_from, is_new_unit}
 use Rattle.elab_types.specs.Finding.{none_of}
-use Rattle.sig_elab.specs.Library.{Basis}
-use Rattle.sig_elab.specs.Outcome.{Outcome}
+use Rattle.elab_rules.specs.Library.{Basis}
+use Rattle.elab_rules.specs.Outcome.{Outcome}
 use Rattle.elab_types.specs.Outcome.{and_then, checked, failed}
 use Rattle.elab_types.specs.Sources.{text_at}
-use Rattle.sig_elab.specs.Specifications.{Signature, binding_of, signature_of}
+use Rattle.elab_rules.specs.Specifications.{Signature, binding_of}
+use Rattle.elab_rules.specs.States.{State}
 use Rattle.elab_types.proofs.Lists.{dropped}
-use Rattle.sig_elab.proofs.Outcomes.{handed_on}
-use Rattle.sig_elab.proofs.ParameterTexts.{held_more, none_is, none_more}
-
--- a binding's identifier and right side
-pub binding_is : (bind : Bind) → binding_of bind ≡ (bind.id, signature_of bind.rhs)
-binding_is bind = search (rules, fold_out-Bind)
+use Rattle.elab_rules.proofs.Outcomes.{handed_on}
+use Rattle.elab_rules.proofs.ParameterTexts.{held_more, none_more}
+use Rattle.elab_phrases.proofs.SoughtLevels.{none_mapped}
+use Rattle.sig_elab.proofs.Levels.{binding_is}
 
 -- ---- a step that fails ends what follows it
-basis_fails : (before : Units) (o : Outcome Basis) (next : Basis → Outcome Basis) (e : ElabRefusal) → GivesBasis before o (Err e) → GivesBasis before (and_then o next) (Err e)
-basis_fails before o next (Refused why token) gives = ap (λ q. and_then q next) gives
-basis_fails before o next NoMemory gives = tt
+basis_fails : (o : Outcome Basis) (next : Basis → Outcome Basis) (e : ElabRefusal) → GivesBasis o (Err e) → GivesBasis (and_then o next) (Err e)
+basis_fails o next (Refused why token) gives = ap (λ q. and_then q next) gives
+basis_fails o next NoMemory gives = tt
 
-pub basis_same : (before : Units) (o p : Outcome Basis) (result : Result Draft ElabRefusal) → o ≡ p → GivesBasis before p result → GivesBasis before o result
-basis_same before o p result same gives = subst (λ q. GivesBasis before q result) (sym same) gives
-
-basis_ends : (before : Units) (o : Outcome Basis) (next : Basis → Outcome Basis) (whole : Outcome Basis) (result : Result Draft ElabRefusal) (e : ElabRefusal) → and_then o next ≡ whole → IsErrAnd result (λ other. other ≡ e) → GivesBasis before o (Err e)
-    → GivesBasis before whole result
-basis_ends before o next whole result e is handed gives =
-    subst (λ r. GivesBasis before whole r) (sym (handed_on result e handed)) (subst (λ q. GivesBasis before q (Err e)) is (basis_fails before o next e gives))
+basis_ends : (o : Outcome Basis) (next : Basis → Outcome Basis) (whole : Outcome Basis) (result : Result Draft ElabRefusal) (e : ElabRefusal) → and_then o next ≡ whole → IsErrAnd result (λ other. other ≡ e) → GivesBasis o (Err e)
+    → GivesBasis whole result
+basis_ends o next whole result e is handed gives =
+    subst (λ r. GivesBasis whole r) (sym (handed_on result e handed)) (subst (λ q. GivesBasis q (Err e)) is (basis_fails o next e gives))
 
 -- ---- phrases in turn
 module _ {A : Type 0} (step : A → Basis → Outcome Basis) (all : List A → Basis → Outcome Basis) (law : (x : A) (xs : List A) (b : Basis) → all (x ∷ xs) b ≡ and_then (step x b) (all xs)) where
   turn : (xs : List A) (i : ℕ) (x d : A) (b : Basis) → i < length xs → x ≡ get_or xs i d → all (drop i xs) b ≡ and_then (step x b) (all (drop (i + 1) xs))
   turn xs i x d b within is = ap (λ rest. all rest b) (dropped xs i x d within is) ∙ law x (drop (i + 1) xs) b
 
-  pub all_end : (before : Units) (xs : List A) (i : ℕ) (x d : A) (b : Basis) (whole : Outcome Basis) (result : Result Draft ElabRefusal) (e : ElabRefusal) → i < length xs → x ≡ get_or xs i d → all (drop i xs) b ≡ whole → IsErrAnd result (λ other. other ≡ e)
-      → GivesBasis before (step x b) (Err e) → GivesBasis before whole result
-  all_end before xs i x d b whole result e within is so_far handed gives = basis_ends before (step x b) _ whole result e (sym (turn xs i x d b within is) ∙ so_far) handed gives
+  pub all_end : (xs : List A) (i : ℕ) (x d : A) (b : Basis) (whole : Outcome Basis) (result : Result Draft ElabRefusal) (e : ElabRefusal) → i < length xs → x ≡ get_or xs i d → all (drop i xs) b ≡ whole → IsErrAnd result (λ other. other ≡ e)
+      → GivesBasis (step x b) (Err e) → GivesBasis whole result
+  all_end xs i x d b whole result e within is so_far handed gives = basis_ends (step x b) _ whole result e (sym (turn xs i x d b within is) ∙ so_far) handed gives
 
   pub all_go_on : (xs : List A) (i : ℕ) (x d : A) (b more : Basis) (whole : Outcome Basis) → i < length xs → x ≡ get_or xs i d → all (drop i xs) b ≡ whole → step x b ≡ Ok more → all (drop (i + 1) xs) more ≡ whole
   all_go_on xs i x d b more whole within is so_far ok = sym (ap (λ o. and_then o (all (drop (i + 1) xs))) ok) ∙ sym (turn xs i x d b within is) ∙ so_far
 
 -- ---- the identifiers of a declaration
-none_appended : {A : Type 0} (test : A → Bool) (xs ys : List A) → none_of test (xs ++ ys) ≡ (none_of test xs && none_of test ys)
-none_appended test [] ys = refl
-none_appended test (x ∷ xs) ys = ap (λ b. not (test x) && b) (none_appended test xs ys) ∙ regrouped (not (test x)) (none_of test xs) (none_of test ys)
-  where
-    regrouped : (a b c : Bool) → (a && (b && c)) ≡ ((a && b) && c)
-    regrouped true b c = refl
-    regrouped false b c = refl
-
-one_or_other : (a b : Bool) → (not a || not b) ≡ not (a && b)
-one_or_other true b = refl
-one_or_other false b = refl
-
--- an identifier is one of the units where it is one of the first or one of the others
-new_in_both : (id : List ℕ) (xs ys : List UnitEntry) → (not (is_new_unit id xs) || not (is_new_unit id ys)) ≡ not (is_new_unit id (xs ++ ys))
-new_in_both id xs ys = one_or_other (is_new_unit id xs) (is_new_unit id ys) ∙ ap not (sym (none_appended _ xs ys))
-
-pub first_has : (r : Bool) (id : List ℕ) (xs ys : List UnitEntry) → r ≡ not (is_new_unit id xs) → r ≡ true → r ≡ not (is_new_unit id (xs ++ ys))
-first_has r id xs ys h found = found ∙ sym (ap (λ b. b || not (is_new_unit id ys)) (sym h ∙ found)) ∙ new_in_both id xs ys
-
-pub other_has : (first r : Bool) (id : List ℕ) (xs ys : List UnitEntry) → first ≡ not (is_new_unit id xs) → first ≡ false → r ≡ not (is_new_unit id ys) → r ≡ not (is_new_unit id (xs ++ ys))
-other_has first r id xs ys f missing h = h ∙ sym (ap (λ b. b || not (is_new_unit id ys)) (sym f ∙ missing)) ∙ new_in_both id xs ys
-
 abbrev pub bound_text : List (List ℕ) → Bind → List ℕ
 bound_text texts bind = text_at texts bind.id
+
+pub all_seen : (texts : List (List ℕ)) (binds : List Bind) (n : ℕ) (id : List ℕ) (place : Option ℕ) → length binds ≤ n → is_some place ≡ not (none_of (bytes_eq id) (map (bound_text texts) (take n binds)))
+    → is_some place ≡ not (none_of (λ bind. bytes_eq id (text_at texts bind.id)) binds)
+all_seen texts binds n id place whole seen =
+    seen ∙ ap (λ bs. not (none_of (bytes_eq id) (map (bound_text texts) bs))) (take_all n binds whole) ∙ ap not (none_mapped (bytes_eq id) (bound_text texts) binds)
 
 bounds_more : (texts : List (List ℕ)) (binds : List Bind) (n : ℕ) (bind d : Bind) → n < length binds → bind ≡ get_or binds n d → map (bound_text texts) (take (n + 1) binds) ≡ map (bound_text texts) (take n binds) ++ bound_text texts bind ∷ []
 bounds_more texts binds n bind d within is =
@@ -92,53 +70,70 @@ seen_more texts binds n bind d text other old new within is t was now =
     ∙ ap (λ x. none_of (bytes_eq other) (map (bound_text texts) (take n binds) ++ x ∷ [])) t
     ∙ ap (none_of (bytes_eq other)) (sym (bounds_more texts binds n bind d within is)))
 
--- what is left to look at after a binding
-abbrev rest_of : List (List ℕ) → List UnitEntry → List (List ℕ) → List Bind → ℕ → Bind → Outcome (Unit {0})
-rest_of texts units seen binds n bind = identifiers_checked texts units (seen ++ text_at texts bind.id ∷ []) (map binding_of (drop (n + 1) binds))
-
-identifier_turn : (texts : List (List ℕ)) (units : List UnitEntry) (seen : List (List ℕ)) (binds : List Bind) (n : ℕ) (bind d : Bind) → n < length binds → bind ≡ get_or binds n d
-    → identifiers_checked texts units seen (map binding_of (drop n binds))
-    ≡ checked (is_new_unit (text_at texts bind.id) units && none_of (bytes_eq (text_at texts bind.id)) seen) Duplicate bind.id (rest_of texts units seen binds n bind)
-identifier_turn texts units seen binds n bind d within is =
-    ap (λ rest. identifiers_checked texts units seen (map binding_of rest)) (dropped binds n bind d within is)
-    ∙ ap (λ (b : ℕ × Signature). identifiers_checked texts units seen (b ∷ map binding_of (drop (n + 1) binds))) (binding_is bind)
-
-is_not : (b : Bool) → true ≡ not b → b ≡ false
-is_not true h = cc
-is_not false h = refl
-
-is_so : (b : Bool) → false ≡ not b → b ≡ true
-is_so true h = refl
-is_so false h = cc
-
 and_false : (b : Bool) → (b && false) ≡ false
 and_false true = refl
 and_false false = refl
 
--- a unit has it
-pub declared_before : (texts : List (List ℕ)) (units : List UnitEntry) (seen : List (List ℕ)) (binds : List Bind) (n : ℕ) (bind d : Bind) (text : List ℕ) (whole : Outcome (Unit {0})) → n < length binds → bind ≡ get_or binds n d → text ≡ text_at texts bind.id
-    → true ≡ not (is_new_unit text units) → identifiers_checked texts units seen (map binding_of (drop n binds)) ≡ whole → whole ≡ failed Duplicate bind.id
-declared_before texts units seen binds n bind d text whole within is t old so_far =
-    sym so_far ∙ identifier_turn texts units seen binds n bind d within is
-    ∙ ap (λ b. checked (b && none_of (bytes_eq (text_at texts bind.id)) seen) Duplicate bind.id (rest_of texts units seen binds n bind)) (ap (λ x. is_new_unit x units) (sym t) ∙ is_not _ old)
+-- the test that a thing is there says whether none is
+pub none_is : (found none expected : Bool) → found ≡ not none → found ≡ not expected → none ≡ expected
+none_is found true true e f = refl
+none_is found true false e f = cc
+none_is found false true e f = cc
+none_is found false false e f = refl
 
--- it stood in the declaration
-pub declared_again : (texts : List (List ℕ)) (units : List UnitEntry) (binds : List Bind) (n : ℕ) (bind d : Bind) (text : List ℕ) (has : Bool) (place : Option ℕ) (whole : Outcome (Unit {0})) → n < length binds → bind ≡ get_or binds n d → text ≡ text_at texts bind.id
-    → has ≡ is_some place → is_some place ≡ not (none_of (bytes_eq text) (map (bound_text texts) (take n binds))) → has ≡ true
-    → identifiers_checked texts units (map (bound_text texts) (take n binds)) (map binding_of (drop n binds)) ≡ whole → whole ≡ failed Duplicate bind.id
-declared_again texts units binds n bind d text has place whole within is t h p found so_far =
-    sym so_far ∙ identifier_turn texts units _ binds n bind d within is
-    ∙ ap (λ b. checked b Duplicate bind.id (rest_of texts units (map (bound_text texts) (take n binds)) binds n bind))
-    (ap (λ b. is_new_unit (text_at texts bind.id) units && b) (ap (λ x. none_of (bytes_eq x) (map (bound_text texts) (take n binds))) (sym t) ∙ none_is has _ place false h p found) ∙ and_false _)
+-- the binding whose turn it is
+module _ (texts : List (List ℕ)) (basis : Basis) (binds : List Bind) (n : ℕ) (bind d : Bind) (text : List ℕ) (whole : Outcome (Unit {0})) (within : n < length binds) (is : bind ≡ get_or binds n d) (t : text ≡ text_at texts bind.id)
+    (so_far : identifiers_checked texts basis (map (bound_text texts) (take n binds)) (map binding_of (drop n binds)) ≡ whole) where
+  abbrev follows : Outcome (Unit {0})
+  follows = identifiers_checked texts basis (map (bound_text texts) (take n binds) ++ text_at texts bind.id ∷ []) (map binding_of (drop (n + 1) binds))
 
--- neither
-pub declared_newly : (texts : List (List ℕ)) (units : List UnitEntry) (binds : List Bind) (n : ℕ) (bind d : Bind) (text : List ℕ) (has : Bool) (place : Option ℕ) (whole : Outcome (Unit {0})) → n < length binds → bind ≡ get_or binds n d → text ≡ text_at texts bind.id
-    → false ≡ not (is_new_unit text units) → has ≡ is_some place → is_some place ≡ not (none_of (bytes_eq text) (map (bound_text texts) (take n binds))) → has ≡ false
-    → identifiers_checked texts units (map (bound_text texts) (take n binds)) (map binding_of (drop n binds)) ≡ whole
-    → identifiers_checked texts units (map (bound_text texts) (take (n + 1) binds)) (map binding_of (drop (n + 1) binds)) ≡ whole
-declared_newly texts units binds n bind d text has place whole within is t new h p fresh so_far =
-    ap (λ seen. identifiers_checked texts units seen (map binding_of (drop (n + 1) binds))) (bounds_more texts binds n bind d within is)
-    ∙ sym (identifier_turn texts units _ binds n bind d within is
-    ∙ ap (λ b. checked (b && none_of (bytes_eq (text_at texts bind.id)) (map (bound_text texts) (take n binds))) Duplicate bind.id (rest_of texts units (map (bound_text texts) (take n binds)) binds n bind)) (ap (λ x. is_new_unit x units) (sym t) ∙ is_so _ new)
-    ∙ ap (λ b. checked b Duplicate bind.id (rest_of texts units (map (bound_text texts) (take n binds)) binds n bind)) (ap (λ x. none_of (bytes_eq x) (map (bound_text texts) (take n binds))) (sym t) ∙ none_is has _ place true h p fresh))
-    ∙ so_far
+  abbrev late : Outcome (Unit {0})
+  late = checked (none_of (is_from text) basis.state.names) LateUnit bind.id follows
+
+  whole_is : whole ≡ checked (is_new_unit text basis.units && none_of (bytes_eq text) (map (bound_text texts) (take n binds))) Duplicate bind.id late
+  whole_is =
+      sym so_far
+      ∙ ap (λ rest. identifiers_checked texts basis (map (bound_text texts) (take n binds)) (map binding_of rest)) (dropped binds n bind d within is)
+      ∙ ap (λ (b : ℕ × Signature). identifiers_checked texts basis (map (bound_text texts) (take n binds)) (b ∷ map binding_of (drop (n + 1) binds))) (binding_is bind)
+      ∙ ap (λ x. checked (is_new_unit x basis.units && none_of (bytes_eq x) (map (bound_text texts) (take n binds))) Duplicate bind.id (checked (none_of (is_from x) basis.state.names) LateUnit bind.id follows)) (sym t)
+
+  -- a unit has its identifier
+  pub declared_before : is_new_unit text basis.units ≡ false → whole ≡ failed Duplicate bind.id
+  declared_before old = whole_is ∙ ap (λ b. checked (b && none_of (bytes_eq text) (map (bound_text texts) (take n binds))) Duplicate bind.id late) old
+
+  -- it stood in the declaration
+  pub declared_again : none_of (bytes_eq text) (map (bound_text texts) (take n binds)) ≡ false → whole ≡ failed Duplicate bind.id
+  declared_again again = whole_is ∙ ap (λ b. checked b Duplicate bind.id late) (ap (λ b. is_new_unit text basis.units && b) again ∙ and_false _)
+
+  module _ (new : is_new_unit text basis.units ≡ true) (fresh : none_of (bytes_eq text) (map (bound_text texts) (take n binds)) ≡ true) where
+    whole_late : whole ≡ late
+    whole_late =
+        whole_is
+        ∙ ap (λ b. checked (b && none_of (bytes_eq text) (map (bound_text texts) (take n binds))) Duplicate bind.id late) new
+        ∙ ap (λ b. checked b Duplicate bind.id late) fresh
+
+    -- it was the first part of a name from elsewhere
+    pub declared_late : none_of (is_from text) basis.state.names ≡ false → whole ≡ failed LateUnit bind.id
+    declared_late from = whole_late ∙ ap (λ b. checked b LateUnit bind.id follows) from
+
+    -- none of these
+    pub declared_newly : none_of (is_from text) basis.state.names ≡ true → identifiers_checked texts basis (map (bound_text texts) (take (n + 1) binds)) (map binding_of (drop (n + 1) binds)) ≡ whole
+    declared_newly from =
+        ap (λ seen. identifiers_checked texts basis seen (map binding_of (drop (n + 1) binds))) (bounds_more texts binds n bind d within is)
+        ∙ sym (whole_late ∙ ap (λ b. checked b LateUnit bind.id follows) from)
+
+-- ---- a declaration
+ids_are : (texts : List (List ℕ)) (binds : List Bind) → map (λ (b : ℕ × Signature). text_at texts b.0) (map binding_of binds) ≡ map (bound_text texts) binds
+ids_are texts [] = refl
+ids_are texts (bind ∷ binds) = ap₂ (λ (b : ℕ × Signature) ids. text_at texts b.0 ∷ ids) (binding_is bind) (ids_are texts binds)
+
+-- its bindings see all units before it
+pub then_bound : (kind : UnitKind) (texts : List (List ℕ)) (binds : List Bind) (before added : List UnitEntry) (count : ℕ) (state : State) (result : Result Draft ElabRefusal) → length added ≤ count
+    → identifiers_checked texts (record { units = before ++ added; state = state }) [] (map binding_of binds) ≡ Ok tt
+    → GivesBasis (all_bound kind texts (before ++ take count added) (map (bound_text texts) binds) (map binding_of binds) (record { units = before ++ added; state = state })) result
+    → GivesBasis (bindings_declared kind texts (map binding_of binds) (record { units = before ++ added; state = state })) result
+then_bound kind texts binds before added count state result whole checked gives =
+    let basis : Basis = record { units = before ++ added; state = state } in
+    subst (λ o. GivesBasis o result)
+    (ap₂ (λ us ids. all_bound kind texts (before ++ us) ids (map binding_of binds) basis) (take_all count added whole) (sym (ids_are texts binds))
+    ∙ sym (ap (λ o. and_then o (λ done. all_bound kind texts basis.units (map (λ (b : ℕ × Signature). text_at texts b.0) (map binding_of binds)) (map binding_of binds) basis)) checked)) gives

@@ -5,15 +5,15 @@ use Rattle.std.proofs.lemmas.Simd.{map-map}
 use Rattle.type_core.specs.declared.library.Tycon.{Tycon}
 use Rattle.type_core.specs.declared.member.Member.{Member}
 use Rattle.type_core.specs.Lists.{concatenated}
-use Rattle.sig_elab.specs.declared.entry.Entry.{Entry}
-use Rattle.sig_elab.specs.declared.entry.Entry.TheFolds.{fold-roll-Entry}
-use Rattle.sig_elab.specs.declared.entry.Entry.TheVariants as entry
-use Rattle.sig_elab.specs.declared.entry.Entry.TheVariants.{rolls-Tycon, rolls-Value, rolls-Structure}
-use Rattle.sig_elab.specs.declared.entry.TypeEntry.{TypeEntry}
-use Rattle.sig_elab.specs.declared.entry.UnitEntry.{UnitEntry}
-use Rattle.sig_elab.specs.declared.entry.ValueEntry.{ValueEntry}
-use Rattle.sig_elab.specs.Library.{entry_members, entry_tycons, members_step, tycons_step, unit_members, unit_tycons}
-use Rattle.sig_elab.specs.States.{member_of, tycon_of, within}
+use Rattle.elab_rules.specs.declared.entry.Entry.{Entry}
+use Rattle.elab_rules.specs.declared.entry.Entry.TheFolds.{fold-roll-Entry}
+use Rattle.elab_rules.specs.declared.entry.Entry.TheVariants as entry
+use Rattle.elab_rules.specs.declared.entry.Entry.TheVariants.{rolls-Tycon, rolls-Value, rolls-Structure}
+use Rattle.elab_rules.specs.declared.entry.TypeEntry.{TypeEntry}
+use Rattle.elab_rules.specs.declared.entry.UnitEntry.{UnitEntry}
+use Rattle.elab_rules.specs.declared.entry.ValueEntry.{ValueEntry}
+use Rattle.elab_rules.specs.Library.{entry_members, entry_tycons, members_step, tycons_step, unit_members, unit_tycons}
+use Rattle.elab_rules.specs.States.{member_of, tycon_of, within}
 use Rattle.elab_types.proofs.Lists.{dropped}
 
 -- ---- type constructors

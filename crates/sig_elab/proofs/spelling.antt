@@ -1,4 +1,6 @@
-pub mod Spelled
-pub mod Values
 pub mod Descriptions
 pub mod Files
+pub mod LongNames
+pub mod Values
+pub mod Tokens
+pub mod Types

@@ -1,21 +1,19 @@
 -- What an elaborator has come to within a file.
 use Rattle.std.specs.Prelude.{◌≡◌, ◌++◌, Result, Ok, Err}
 use Rattle.sig_elab.specs.declared.draft.Draft.{Draft}
-use Rattle.sig_elab.specs.declared.refusal.ElabRefusal.{ElabRefusal}
-use Rattle.sig_elab.specs.declared.refusal.ElabRefusal.TheVariants.{Refused, NoMemory}
-use Rattle.sig_elab.specs.declared.units.Units.{Units}
-use Rattle.sig_elab.specs.Library.{Basis}
-use Rattle.sig_elab.specs.Outcome.{Outcome}
+use Rattle.elab_rules.specs.declared.refusal.ElabRefusal.{ElabRefusal}
+use Rattle.elab_rules.specs.declared.refusal.ElabRefusal.TheVariants.{Refused, NoMemory}
+use Rattle.elab_rules.specs.Library.{Basis}
+use Rattle.elab_rules.specs.Outcome.{Outcome}
 use Rattle.elab_types.specs.Outcome.{failed}
-use Rattle.sig_elab.specs.Totals.{AreTotals}
-use Rattle.sig_elab.specs.Views.{state_of}
+use Rattle.elab_rules.specs.Views.{state_of}
 
 -- the basis within a file: the units of the files before it and its own so far, and the state
-abbrev pub basis_of : Units → Draft → Basis
-basis_of before draft = record { units = before.entries.items ++ draft.added.entries.items; state = state_of draft.progress }
+abbrev pub basis_of : Draft → Basis
+basis_of draft = record { units = draft.before.now.entries.items ++ draft.added.entries.items; state = state_of draft.progress }
 
--- the answer is the basis of the outcome, of which the totals are known; want of memory is free
-abbrev pub GivesBasis : Units → Outcome Basis → Result Draft ElabRefusal → Type 0
-GivesBasis before outcome (Ok draft) = (outcome ≡ Ok (basis_of before draft)) × AreTotals draft.totals (basis_of before draft)
-GivesBasis before outcome (Err (Refused why token)) = outcome ≡ failed why token
-GivesBasis before outcome (Err NoMemory) = Unit {0}
+-- the answer is the basis of the outcome; want of memory is free
+abbrev pub GivesBasis : Outcome Basis → Result Draft ElabRefusal → Type 0
+GivesBasis outcome (Ok draft) = outcome ≡ Ok (basis_of draft)
+GivesBasis outcome (Err (Refused why token)) = outcome ≡ failed why token
+GivesBasis outcome (Err NoMemory) = Unit {0}

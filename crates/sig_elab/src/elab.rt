@@ -5,22 +5,24 @@ ghost use Rattle.sig_parser.specs.Files.{File};
 ghost use Rattle.ty_parser.specs.Sorts.{sorts_of};
 ghost use Rattle.type_core.specs.ValidLibrary.{IsValidLibrary};
 ghost use Rattle.sig_elab.specs.Elaborators.{GivesBasis, basis_of};
-ghost use Rattle.sig_elab.specs.Files.{elaborated};
-ghost use Rattle.sig_elab.specs.Library.{empty_basis, library};
-ghost use Rattle.sig_elab.specs.Outcome.{Agrees};
-ghost use Rattle.sig_elab.specs.Soundness.{IsSound};
-ghost use Rattle.elab_types.specs.Sources.{texts_of};
-ghost use Rattle.sig_elab.specs.Totals.{AreTotals};
+ghost use Rattle.elab_rules.specs.Files.{elaborated};
+ghost use Rattle.elab_rules.specs.Library.{empty_basis, library};
+ghost use Rattle.elab_rules.specs.Outcome.{Agrees};
+ghost use Rattle.elab_rules.specs.Soundness.{IsSoundBasis};
+ghost use Rattle.elab_types.specs.Sources.{AreWithin, texts_of};
 
 use crate::declarations::declare_all;
 use crate::draft::Draft;
-use crate::initial::initial_environment;
-use crate::listing::{all_members, all_names, all_tycons, all_units};
-use crate::progress::Progress;
-use crate::refusal::ElabRefusal;
+use crate::keeping::{all_names, numbers_kept};
+use crate::listing::{all_members, all_tycons, all_units};
 use crate::totals::Totals;
-use crate::units::Units;
-use elab_env::NameTable;
+use elab_phrases::renumbering::{Numbering, units_renumbered};
+use elab_rules::index::index_of;
+use elab_rules::initial::initial_environment;
+use elab_rules::progress::Progress;
+use elab_rules::refusal::ElabRefusal;
+use elab_rules::scope::Scope;
+use elab_rules::units::Units;
 use elab_types::{Source, first_tokens, tokens_within};
 use sig_base::NoMemory;
 use sig_parser::SourceFile;
@@ -42,41 +44,40 @@ pub struct Elab {
 impl Model for Elab {
     ghost use Rattle.std.specs.Coded.{codes};
     ghost use Rattle.type_core.specs.contracts.ty.Ty as types;
-    ghost use Rattle.sig_elab.specs.contracts.entry.Entry as entries;
-    ghost use Rattle.sig_elab.specs.Library.{Basis};
+    ghost use Rattle.elab_rules.specs.contracts.entry.Entry as entries;
+    ghost use Rattle.elab_rules.specs.Library.{Basis};
 
     ghost Value = { Basis };
 
     ghost coded = { Prim.hlevel (codes, types.the_row.coded, entries.the_row.coded) };
 
-    ghost use Rattle.sig_elab.specs.Soundness.{IsSound};
-    ghost use Rattle.sig_elab.specs.Totals.{AreTotals};
-    ghost use Rattle.sig_elab.specs.Views.{state_of};
+    ghost use Rattle.sig_elab.specs.Kept.{IsSound};
+    ghost use Rattle.elab_rules.specs.Views.{state_of};
 
     ghost view = { λ e. record { units = e.units.entries.items; state = state_of e.progress } };
 
-    ghost invariant = { λ e. AreTotals e.totals (record { units = e.units.entries.items; state = state_of e.progress }) × IsSound (record { units = e.units.entries.items; state = state_of e.progress }) };
+    ghost invariant = { λ e. IsSound e.units e.progress e.totals };
 }
 
 // How far a file comes.
-fn elaborate_file(
+fn elaborate_file<'a>(
     alloc: Global,
     file: &SourceFile,
     tokens: &[Token],
     bytes: &[u8],
-    before: &Units,
-    draft: Draft,
-) -> Result<Draft, ElabRefusal>
+    draft: Draft<'a>,
+) -> Result<Draft<'a>, ElabRefusal>
     requires tokens { tokens_of bytes.now tokens.now }
     requires phrase { File (sorts_of bytes.now tokens.now) file.now }
-    requires counted { AreTotals draft.totals (basis_of before.now draft) }
-    requires sound { IsSound (basis_of before.now draft) }
-    ensures outcome { GivesBasis before.now (elaborated (texts_of bytes.now tokens.now) file.now (basis_of before.now draft)) result }
-    ensures sound { IfOk result (λ after. IsSound (basis_of before.now after)) }
+    requires sound { IsSoundBasis (basis_of draft) }
+    ensures outcome { GivesBasis (elaborated (texts_of bytes.now tokens.now) file.now (basis_of draft.entry)) result }
+    ensures sound { IfOk result (λ after. IsSoundBasis (basis_of after)) }
+    ensures before { IfOk result (λ after. after.before.now ≡ draft.entry.before.now) }
 {
     tokens_within(bytes, tokens);
     let firsts = first_tokens(alloc, bytes, tokens)?;
     let initial = initial_environment(alloc)?;
+    let index = index_of(alloc, initial.as_slice())?;
     let source = Source {
         bytes,
         tokens,
@@ -85,9 +86,11 @@ fn elaborate_file(
     declare_all(
         alloc,
         &source,
-        initial.as_slice(),
+        Scope {
+            entries: initial.as_slice(),
+            index: &index,
+        },
         file.decs.as_slice(),
-        before,
         draft,
     )
 }
@@ -100,10 +103,7 @@ impl Elab {
         Ok(Elab {
             alloc,
             units: Units::new(alloc),
-            progress: Progress {
-                table: NameTable::new(alloc)?,
-                weight: 0,
-            },
+            progress: Progress::new(alloc)?,
             totals: Totals::none(),
         })
     }
@@ -123,15 +123,17 @@ impl Elab {
         ensures kept { OnErr result (self.new ≡ self.old) }
     {
         let draft = Draft {
+            before: &self.units,
             added: Units::new(self.alloc),
             progress: self.progress.copy(self.alloc)?,
             totals: self.totals,
         };
         let Draft {
+            before: _,
             added,
             progress,
             totals,
-        } = elaborate_file(self.alloc, file, tokens, bytes, &self.units, draft)?;
+        } = elaborate_file(self.alloc, file, tokens, bytes, draft)?;
         self.units.append(self.alloc, added)?;
         self.progress = progress;
         self.totals = totals;
@@ -140,7 +142,7 @@ impl Elab {
 
     // What holds of every elaborator.
     fn is_sound(&self)
-        ensures sound { IsSound self.now }
+        ensures sound { IsSoundBasis self.now }
     {
         let _ = &self.units;
     }
@@ -149,7 +151,10 @@ impl Elab {
     fn listed(&self, alloc: Global) -> Result<Library, NoMemory>
         ensures library { IfOk result (λ l. l ≡ library self.now) }
     {
-        let units = self.units.entries.as_slice();
+        let numbers = numbers_kept(alloc, &self.progress.table)?;
+        let numbering = Numbering::Kept(numbers.as_slice());
+        let units = units_renumbered(alloc, self.units.entries.as_slice(), &numbering)?;
+        let units = units.as_slice();
         Ok(Library {
             units: all_units(alloc, units)?,
             names: all_names(alloc, &self.progress.table)?,

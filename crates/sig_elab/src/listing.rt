@@ -1,15 +1,14 @@
 // What units have, as a library lists it.
 ghost use Rattle.std.specs.Prelude.{◌≡◌, ◌++◌, map, IfOk, OnOk};
-ghost use Rattle.sig_elab.specs.Library.{entry_members, entry_tycons, unit_members, unit_of, unit_tycons};
+ghost use Rattle.elab_rules.specs.Library.{entry_members, entry_tycons, unit_members, unit_of, unit_tycons};
 ghost use Rattle.type_core.specs.Lists.{concatenated};
 
-use crate::copying::{copy_function, copy_name, copy_scheme};
-use crate::entry::{Entry, UnitEntry};
-use crate::naming::within;
-use elab_env::NameTable;
+use elab_rules::copying::{copy_function, copy_scheme};
+use elab_rules::entry::{Entry, UnitEntry};
+use elab_rules::naming::within;
 use sig_base::{List, NoMemory, Text};
 use std::alloc::Global;
-use type_core::{Member, NameId, Tycon, TypeName, Unit};
+use type_core::{Member, Tycon, Unit};
 
 // Adds the type constructors of an entry of a body of this path.
 #[cycle(tycons)]
@@ -168,15 +167,4 @@ pub fn all_members(alloc: Global, units: &[UnitEntry]) -> Result<List<Member>, N
         )?;
     }
     Ok(members)
-}
-
-/// The names of a table.
-pub fn all_names(alloc: Global, table: &NameTable) -> Result<List<TypeName>, NoMemory>
-    ensures value { IfOk result (λ names. names ≡ table.now.names) }
-{
-    let mut names = List::new(alloc);
-    for n in 0..table.len() {
-        names.push(copy_name(alloc, table.name(NameId(n)))?)?;
-    }
-    Ok(names)
 }

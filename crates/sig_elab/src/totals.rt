@@ -1,19 +1,22 @@
 // What units come to.
+ghost use Rattle.elab_rules.specs.Views.{state_of};
 ghost use Rattle.std.specs.Prelude.{◌≡◌, ◌++◌, ◌∷◌, [], List, IfOk, map, min};
-ghost use Rattle.sig_elab.specs.Files.{library_limited};
-ghost use Rattle.sig_elab.specs.Library.{Basis, empty_basis};
-ghost use Rattle.sig_elab.specs.Outcome.{Agrees};
-ghost use Rattle.sig_elab.specs.States.{State};
+ghost use Rattle.elab_rules.specs.Files.{library_limited};
+ghost use Rattle.elab_rules.specs.Library.{Basis, empty_basis};
+ghost use Rattle.elab_rules.specs.Outcome.{Agrees};
+ghost use Rattle.elab_rules.specs.States.{State};
 ghost use Rattle.sig_elab.specs.Totals.{AreTotals};
-ghost use Rattle.sig_elab.specs.declared.entry.UnitEntry.{UnitEntry as AUnit};
+ghost use Rattle.elab_rules.specs.Tracking.{IsTracked};
+ghost use Rattle.elab_rules.specs.declared.entry.UnitEntry.{UnitEntry as AUnit};
 ghost use Rattle.type_core.specs.Lists.{sum_of};
 ghost use Rattle.type_core.specs.NormalSize.{normal_size_of};
 ghost use Rattle.type_core.specs.Weight.{member_weight, name_weight, tycon_weight};
 
-use crate::entry::UnitEntry;
 use crate::listing::{unit_members, unit_tycons};
-use crate::refusal::{ElabRefusal, Why};
-use crate::weights::{MAX_WEIGHT, type_weight};
+use elab_rules::entry::UnitEntry;
+use elab_rules::progress::Progress;
+use elab_rules::refusal::{ElabRefusal, Why};
+use elab_rules::weights::{MAX_WEIGHT, type_weight};
 use sig_base::NoMemory;
 use std::alloc::Global;
 use type_core::{Member, Tycon, normal_size};
@@ -84,9 +87,9 @@ impl Totals {
         }
     }
 
-    /// What the units come to with one more of them, where the names weigh as much as before.
+    /// What the units come to with one more of them, beside the external names.
     pub fn with_unit(self, alloc: Global, unit: &UnitEntry) -> Result<Totals, NoMemory>
-        ensures more { IfOk result (λ totals. (units : List AUnit) (s t : State) → AreTotals self (record { units = units; state = s }) → sum_of (map name_weight t.names) ≡ sum_of (map name_weight s.names) → AreTotals totals (record { units = units ++ unit.now ∷ []; state = t })) }
+        ensures more { IfOk result (λ totals. (units : List AUnit) (s t : State) → AreTotals self (record { units = units; state = s }) → AreTotals totals (record { units = units ++ unit.now ∷ []; state = t })) }
     {
         let tycons = unit_tycons(alloc, unit)?;
         let members = unit_members(alloc, unit)?;
@@ -107,13 +110,15 @@ impl Totals {
     }
 
     /// Whether the library is within its limits; else this is refused at the token.
-    pub fn check(self, token: u32) -> Result<(), ElabRefusal>
-        ensures outcome { (basis : Basis) → AreTotals self basis → Agrees (library_limited token basis) result basis }
+    pub fn check(self, progress: &Progress, token: u32) -> Result<(), ElabRefusal>
+        requires tracked { IsTracked progress.now }
+        ensures outcome { (basis : Basis) → basis.state ≡ state_of progress.now → AreTotals self basis → Agrees (library_limited token basis) result basis }
     {
+        progress.table.is_sound();
         if self.members > MAX_MEMBERS {
             return Err(ElabRefusal::Refused(Why::TooManyMembers, token));
         }
-        if self.weight > MAX_WEIGHT {
+        if self.weight.saturating_add(progress.external_weight) > MAX_WEIGHT {
             return Err(ElabRefusal::Refused(Why::LibraryTooLarge, token));
         }
         if self.normal > MAX_NORMAL_SUM {

@@ -15,13 +15,12 @@ use Rattle.sig_parser.specs.declared.tree.ValDesc.{ValDesc}
 use Rattle.sig_parser.specs.declared.tree.WherePart.{WherePart}
 use Rattle.sig_parser.specs.Grammar.{Separated, one, more, Named, named, Typed, typed, TyVar, tyvar, TyVarSeq, no_variables, variable, variables, Value, value, Constructor, constructor, Abbreviation, without_type, with_type, Con, constant, carrying, DatDesc, datdesc, Part, part, Wheres, no_parts, parts, Parts, by_where, by_and, name_of, Names, two_names, more_names, Equated, equated}
 use Rattle.elab_types.specs.Sources.{text_at}
-use Rattle.sig_elab.proofs.spelling.Spelled as spelling
-use Rattle.elab_types.specs.Spelling.{IsSpelledType}
-use Rattle.sig_elab.proofs.spelling.Spelled.{IsSpelledValue, IsSpelledTycon, IsSpelledConstructor, IsSpelledDatatype, IsSpelledPart, IsSpelledSignature, AreSpelledSignatures}
+use Rattle.elab_rules.specs.Spelling as spelling
+use Rattle.elab_rules.specs.Spelling.{IsSpelledType, IsSpelledValue, IsSpelledTycon, IsSpelledConstructor, IsSpelledDatatype, IsSpelledPart, IsSpelledSignature, AreSpelledSignatures}
 use Rattle.elab_types.proofs.spelling.Sorts.{constructor_text, type_text}
+use Rattle.sig_elab.proofs.spelling.Tokens.{HaveTexts}
+use Rattle.sig_elab.proofs.spelling.Types.{type_spelled}
 use Rattle.sig_elab.proofs.spelling.Values.{value_text}
-use Rattle.elab_types.proofs.spelling.Tokens.{HaveTexts}
-use Rattle.elab_types.proofs.spelling.Types.{type_spelled}
 
 module _ (texts : List (List ℕ)) where
   -- where P holds of each phrase of a kind, it holds of all that stand with a word between them
@@ -49,24 +48,24 @@ module _ (texts : List (List ℕ)) where
   typed_spelled (typed d) h = type_spelled texts d h
 
   pub value_spelled : (ts r : List Numbered) (x : ValDesc) → Value ts r x → HaveTexts texts ts → IsSpelledValue texts x × HaveTexts texts r
-  value_spelled ts r x (value {i = i} {so = so} vid d) h = let q = typed_spelled d h.1.1 in ((value_text (text_at texts i) so vid h.0, q.0), q.1)
+  value_spelled ts r x (value {i = i} {so = so} vid d) h = let q = typed_spelled d h.1.1 in ((value_text (text_at texts i) so vid (h.0).sort, q.0), q.1)
 
   pub tycon_spelled : (ts r : List Numbered) (x : TypeDesc) → Constructor ts r x → HaveTexts texts ts → IsSpelledTycon texts x × HaveTexts texts r
-  tycon_spelled ts r x (constructor {i = i} {so = so} d tycon) h = let q = variables_read d h in ((type_text (text_at texts i) so tycon q.0, tt), q.1)
+  tycon_spelled ts r x (constructor {i = i} {so = so} d tycon) h = let q = variables_read d h in ((type_text (text_at texts i) so tycon (q.0).sort, tt), q.1)
 
   pub abbreviation_spelled : (ts r : List Numbered) (x : TypeDesc) → Abbreviation ts r x → HaveTexts texts ts → IsSpelledTycon texts x × HaveTexts texts r
-  abbreviation_spelled ts r x (without_type {i = i} {so = so} d tycon) h = let q = variables_read d h in ((type_text (text_at texts i) so tycon q.0, tt), q.1)
-  abbreviation_spelled ts r x (with_type {i = i} {so = so} d tycon t) h = let q = variables_read d h in let p = typed_spelled t q.1.1 in ((type_text (text_at texts i) so tycon q.0, p.0), p.1)
+  abbreviation_spelled ts r x (without_type {i = i} {so = so} d tycon) h = let q = variables_read d h in ((type_text (text_at texts i) so tycon (q.0).sort, tt), q.1)
+  abbreviation_spelled ts r x (with_type {i = i} {so = so} d tycon t) h = let q = variables_read d h in let p = typed_spelled t q.1.1 in ((type_text (text_at texts i) so tycon (q.0).sort, p.0), p.1)
 
   pub constructor_spelled : (ts r : List Numbered) (x : ConDesc) → Con ts r x → HaveTexts texts ts → IsSpelledConstructor texts x × HaveTexts texts r
-  constructor_spelled ts r x (constant {i = i} {so = so} vid) h = ((constructor_text (text_at texts i) so vid h.0, tt), h.1)
-  constructor_spelled ts r x (carrying {i = i} {so = so} vid t) h = let p = typed_spelled t h.1.1 in ((constructor_text (text_at texts i) so vid h.0, p.0), p.1)
+  constructor_spelled ts r x (constant {i = i} {so = so} vid) h = ((constructor_text (text_at texts i) so vid (h.0).sort, tt), h.1)
+  constructor_spelled ts r x (carrying {i = i} {so = so} vid t) h = let p = typed_spelled t h.1.1 in ((constructor_text (text_at texts i) so vid (h.0).sort, p.0), p.1)
 
   pub datatype_spelled : (ts r : List Numbered) (x : DataDesc) → DatDesc ts r x → HaveTexts texts ts → IsSpelledDatatype texts x × HaveTexts texts r
   datatype_spelled ts r x (datdesc {i = i} {so = so} d tycon cs) h =
       let q = variables_read d h in
       let p = separated_spelled (IsSpelledConstructor texts) constructor_spelled cs q.1.1 in
-      ((type_text (text_at texts i) so tycon q.0, p.0), p.1)
+      ((type_text (text_at texts i) so tycon (q.0).sort, p.0), p.1)
 
   part_spelled : {at : ℕ} {ts r : List Numbered} {x : WherePart} → Part at ts r x → HaveTexts texts ts → IsSpelledPart texts x × HaveTexts texts r
   part_spelled (part d tycon t) h = typed_spelled t (variables_read d h.1).1.1

@@ -16,10 +16,10 @@ use Rattle.sig_parser.specs.declared.tree.TopDec.{TopDec}
 use Rattle.sig_parser.specs.Files.{File}
 use Rattle.sig_parser.specs.Grammar.{Sig, sigexp, Base, body, name, Specs, no_specs, more_specs, semicolon, Described, val, types, eqtype, datatype, replica, exception, structure, include_one, include_names, sharing_type, sharing, Bindings, one_binding, more_bindings, Binding, binding, Declared, signature, top_structure, TopDecs, no_decs, more_decs, top_semicolon}
 use Rattle.elab_types.specs.Sources.{text_at, texts_of}
-use Rattle.sig_elab.proofs.spelling.Spelled as spelling
-use Rattle.sig_elab.proofs.spelling.Spelled.{NamesUnit, IsSpelledValue, IsSpelledTycon, IsSpelledConstructor, IsSpelledDatatype, IsSpelledSpec, AreSpelledSpecs, IsSpelledBase, IsSpelledSignature, AreSpelledBindings, IsSpelledDeclaration, IsSpelledFile}
+use Rattle.elab_rules.specs.Spelling as spelling
+use Rattle.elab_rules.specs.Spelling.{NamesUnit, IsSpelledValue, IsSpelledTycon, IsSpelledConstructor, IsSpelledDatatype, IsSpelledSpec, AreSpelledSpecs, IsSpelledBase, IsSpelledSignature, AreSpelledBindings, IsSpelledDeclaration, IsSpelledFile}
 use Rattle.elab_types.proofs.spelling.Sorts.{type_text, unit_text}
-use Rattle.elab_types.proofs.spelling.Tokens.{HaveTexts, file_texts}
+use Rattle.sig_elab.proofs.spelling.Tokens.{HaveTexts, file_texts}
 use Rattle.sig_elab.proofs.spelling.Descriptions.{separated_spelled, equated_read, value_spelled, tycon_spelled, abbreviation_spelled, constructor_spelled, datatype_spelled, wheres_spelled, names_spelled}
 
 module _ (texts : List (List ℕ)) where
@@ -49,7 +49,7 @@ module _ (texts : List (List ℕ)) where
     spec_spelled (types d) h = let q = separated_spelled texts (IsSpelledTycon texts) (abbreviation_spelled texts) d h.1 in (spelling.types q.0, q.1)
     spec_spelled (eqtype d) h = let q = separated_spelled texts (IsSpelledTycon texts) (tycon_spelled texts) d h.1 in (spelling.eqtypes q.0, q.1)
     spec_spelled (datatype d) h = let q = separated_spelled texts (IsSpelledDatatype texts) (datatype_spelled texts) d h.1 in (spelling.datatypes q.0, q.1)
-    spec_spelled (replica {i = i} {so = so} described replicated) h = (spelling.replica (type_text (text_at texts i) so described h.1.0), h.1.1.1.1.1)
+    spec_spelled (replica {i = i} {so = so} described replicated) h = (spelling.replica (type_text (text_at texts i) so described (h.1.0).sort), h.1.1.1.1.1)
     spec_spelled (exception d) h = let q = separated_spelled texts (IsSpelledConstructor texts) (constructor_spelled texts) d h.1 in (spelling.exceptions q.0, q.1)
     spec_spelled (structure d) h = let q = bindings_spelled d h.1 in (spelling.structures q.0, q.1)
     spec_spelled (include_one d) h = let q = signature_spelled d h.1 in (spelling.included (spelling.more_signatures q.0 spelling.no_signatures), q.1)
@@ -62,7 +62,7 @@ module _ (texts : List (List ℕ)) where
     bindings_spelled (more_bindings q d) h = let p = bindings_spelled q h in binding_spelled p.0 d p.1.1
 
     binding_spelled : {between : Sort → Bool} {ts r : List Numbered} {bs : List Bind} {b : Bind} → AreSpelledBindings texts bs → Binding between ts r b → HaveTexts texts ts → AreSpelledBindings texts (bs ++ b ∷ []) × HaveTexts texts r
-    binding_spelled before (binding {i = i} {so = so} named between d) h = let q = signature_spelled d h.1.1 in (bindings_push _ before (unit_text (text_at texts i) so named h.0) q.0, q.1)
+    binding_spelled before (binding {i = i} {so = so} named between d) h = let q = signature_spelled d h.1.1 in (bindings_push _ before (unit_text (text_at texts i) so named (h.0).sort) q.0, q.1)
 
   declaration_spelled : {ts r : List Numbered} {d : TopDec} → Declared ts r d → HaveTexts texts ts → IsSpelledDeclaration texts d × HaveTexts texts r
   declaration_spelled (signature d) h = bindings_spelled d h.1

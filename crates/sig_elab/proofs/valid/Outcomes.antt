@@ -3,9 +3,9 @@ use Rattle.std.proofs.Common.{◌≡◌, List, [], ◌∷◌, Ok, subst}
 use Rattle.std.proofs.lemmas.List.Elements.{All-head, All-tail}
 use Rattle.std.specs.List.{All}
 use Rattle.elab_types.proofs.Outcomes.{ok_is, then_parts}
-use Rattle.sig_elab.specs.Bodies.{Site, Specified, in_turn}
-use Rattle.sig_elab.specs.Environments.{Environment}
-use Rattle.sig_elab.specs.States.{State}
+use Rattle.elab_rules.specs.Bodies.{Site, Specified, in_turn}
+use Rattle.elab_rules.specs.Environments.{Environment}
+use Rattle.elab_rules.specs.States.{State}
 
 -- what each phrase keeps, phrases in turn keep
 pub kept_in_turn : {A : Type 0} (Spelled : A → Type 0) (Keeps : Environment → State → Type 0) (step : A → Specified) (site : Site)

@@ -1,5 +1,5 @@
 use Rattle.std.proofs.Common.{◌≡◌, ℕ, ◌+◌, ◌≤◌, Some, None, drop, take, map, length, slice_get, refl, sym, ap, ◌∙◌, subst, arith, IfSome}
-use Rattle.std.proofs.lemmas.List.{take_all}
+use Rattle.std.proofs.lemmas.List.{length-map, take_all}
 use Rattle.type_core.specs.declared.ty.Ty.{Ty}
 use Rattle.type_core.specs.declared.ty.Field.{Field}
 use Rattle.type_core.specs.Lists.{sum_of}
@@ -113,7 +113,7 @@ size_from-returns-in-Some t c =
     let rs = c.args.table.now.realizations in
     let names = c.args.table.now.names in
     let can : CanTake names rs c.in-Con.name c.in-Some.place = subst (λ o. IfSome o (CanTake names rs c.in-Con.name)) c.in-Some.is c.follow-place.ensures.followed.can_take in
-    let count = takes_done names (drop c.args.from rs) c.args.t.now c.in-Con.name c.in-Con.arguments (map (resolved (drop c.args.from rs)) c.in-Con.arguments) c.requires.over c.in-Con.is refl in
+    let count = takes_done names c.args.t.now c.in-Con.name c.in-Con.arguments (map (resolved (drop c.args.from rs)) c.in-Con.arguments) c.requires.over c.in-Con.is (length-map c.in-Con.arguments (resolved (drop c.args.from rs))) in
     record {
       value = c.applied_size.ensures.value
           ∙ counted_application 0xffff_ffff_ffff_ffff (listed c.args.sizes.now) (drop c.args.from rs) _ c.in-Con.arguments (resolved (drop (c.in-Some.place + 1) rs) (body_of (slice_get rs c.in-Some.place))) c.args.t.now

@@ -1,6 +1,6 @@
 use Rattle.std.proofs.Common.{◌≡◌, take, Ok}
 use Rattle.sig_base.specs.Faults.{NoneFell}
-use Rattle.sig_elab.specs.Library.{empty_basis}
+use Rattle.elab_rules.specs.Library.{empty_basis}
 use Rattle.search_core.specs.Loading.{TakesFiles}
 use Rattle.search_core.proofs.loading.take_all.Given as goal
 

@@ -1,7 +1,7 @@
 use Rattle.std.proofs.Common.{◌≡◌, ◌++◌, map, drop}
 use Rattle.type_core.specs.Lists.{concatenated}
-use Rattle.sig_elab.specs.declared.entry.Entry.{Entry}
-use Rattle.sig_elab.specs.Library.{entry_members}
+use Rattle.elab_rules.specs.declared.entry.Entry.{Entry}
+use Rattle.elab_rules.specs.Library.{entry_members}
 use Rattle.sig_elab.proofs.listing.+members.Given as goal
 
 abbrev pub invariant-push_members-loop-entry : goal.invariant-push_members-loop-entry

@@ -1,4 +1,4 @@
-use Rattle.sig_elab.specs.Library.{unit_members}
+use Rattle.elab_rules.specs.Library.{unit_members}
 use Rattle.sig_elab.proofs.Listings.{listed_more, unit_members_listed}
 use Rattle.sig_elab.proofs.listing.all_members.Goals as goal
 

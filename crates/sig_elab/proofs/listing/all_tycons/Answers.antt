@@ -1,4 +1,4 @@
-use Rattle.sig_elab.specs.Library.{unit_tycons}
+use Rattle.elab_rules.specs.Library.{unit_tycons}
 use Rattle.sig_elab.proofs.Listings.{listed_more, unit_tycons_listed}
 use Rattle.sig_elab.proofs.listing.all_tycons.Goals as goal
 

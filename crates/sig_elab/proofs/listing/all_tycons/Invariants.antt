@@ -1,6 +1,6 @@
 use Rattle.std.proofs.Common.{◌≡◌, ◌++◌, map, drop}
 use Rattle.type_core.specs.Lists.{concatenated}
-use Rattle.sig_elab.specs.Library.{unit_tycons}
+use Rattle.elab_rules.specs.Library.{unit_tycons}
 use Rattle.sig_elab.proofs.listing.all_tycons.Given as goal
 
 abbrev pub invariant-loop-unit : goal.invariant-loop-unit

@@ -1,5 +1,5 @@
 use Rattle.std.proofs.Common.{◌≡◌, map, take}
-use Rattle.sig_elab.specs.Library.{unit_of}
+use Rattle.elab_rules.specs.Library.{unit_of}
 use Rattle.sig_elab.proofs.listing.all_units.Given as goal
 
 abbrev pub invariant-loop-unit : goal.invariant-loop-unit

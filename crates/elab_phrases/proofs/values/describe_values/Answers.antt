@@ -1,0 +1,18 @@
+use Rattle.std.proofs.Common.{refl}
+use Rattle.elab_phrases.proofs.Sites.{site_mentions}
+use Rattle.elab_phrases.proofs.Staying.{mentions_itself, mentions_twice}
+use Rattle.elab_phrases.proofs.Turns.{turn_ends, turn_moves_on}
+use Rattle.elab_phrases.proofs.values.describe_values.Goals as goal
+
+pub loop-value-init : goal.loop-value-init
+loop-value-init c = record { turns = refl; stands = c.requires.stands; mentions = mentions_itself _ }
+
+pub returns-in_err-body-clause-outcome : goal.returns-in_err-body-clause-outcome
+returns-in_err-body-clause-outcome c = turn_ends _ _ _ _ _ _ _ _ _ _ _ _ c.loop-value-test.true c.value-item.is c.loop-value.invariant.turns c.from_residual.ensures.1 c.in_err-body.ensures.outcome
+
+pub loop-value-preserved : goal.loop-value-preserved
+loop-value-preserved c = record {
+  turns = turn_moves_on _ _ _ _ _ _ _ _ _ _ _ _ (site_mentions _ _ c.args.site.now c.in_ok-body.ensures.mentions) c.loop-value-test.true c.value-item.is c.loop-value.invariant.turns c.in_ok-body.ensures.outcome;
+  stands = c.in_ok-body.ensures.stands;
+  mentions = mentions_twice _ _ _ c.loop-value.invariant.mentions c.in_ok-body.ensures.mentions;
+}

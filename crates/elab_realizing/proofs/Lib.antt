@@ -1,0 +1,17 @@
+pub mod Joined
+pub mod Renumbered
+pub mod IndexWith
+pub mod PathsShared
+pub mod JoinedNames
+pub mod JoinedAll
+pub mod Tested
+pub mod SameFunctions
+pub mod RealizedNow
+pub mod Limited
+pub mod JoinTurns
+pub mod SharedPaths
+pub mod PartsApplied
+pub mod NamesShared
+pub mod StructuresShared
+pub mod EntryTests
+pub mod Agreed
