@@ -2,6 +2,7 @@ pub mod Parts
 pub mod Equations
 pub mod Replacing
 pub mod Resolved
+pub mod Unchanged
 pub mod NameLists
 pub mod Held
 pub mod ParameterLists

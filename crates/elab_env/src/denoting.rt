@@ -2,7 +2,7 @@
 ghost use Rattle.std.specs.Prelude.{◌≡◌, ◌≢◌, ◌↔◌, ℕ, IfNone, IfOk, IfSome, IsTrue};
 ghost use Rattle.elab_env.specs.Parameters.{name_function, parameter, parameters};
 
-use sig_base::{List, NoMemory};
+use sig_base::{List, NoMemory, Row};
 use std::alloc::Global;
 use type_core::{NameId, Ty, TypeFn, VarId};
 
@@ -51,6 +51,6 @@ pub fn name_function(alloc: Global, name: NameId, arity: u32) -> Result<TypeFn, 
     }
     Ok(TypeFn {
         arity,
-        body: Ty::Con(name, arguments),
+        body: Ty::Con(name, Row::new(alloc, arguments)?),
     })
 }

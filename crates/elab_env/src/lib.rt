@@ -15,6 +15,7 @@ mod names;
 mod realization;
 mod resolving;
 mod sizes;
+mod staying;
 
 pub use denoting::{denoted_name, name_function};
 pub use laws::{

@@ -14,7 +14,7 @@ ghost use Rattle.elab_env.specs.Table.{Table, is_free, joining, with_joined};
 use crate::denoting::name_function;
 use crate::names::Names;
 use crate::realization::{Realization, copy_realizations};
-use crate::resolving::resolve_from;
+use crate::resolving::resolve;
 use crate::sizes::{Sizes, size_from};
 use sig_base::{List, NoMemory, Text};
 use std::alloc::Global;
@@ -228,7 +228,7 @@ impl NameTable {
         ensures resolved { IfOk result (λ r. IsResolved self.now.realizations r) }
     {
         self.is_sound();
-        resolve_from(alloc, t, self, 0)
+        resolve(alloc, t, self)
     }
 
     /// How many nodes the resolved type has, or `u64::MAX` where that is less.

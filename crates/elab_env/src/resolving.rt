@@ -10,9 +10,10 @@ ghost use Rattle.elab_env.specs.Sound.{IsSound};
 use crate::denoting::denoted_name;
 use crate::lacking::lacks;
 use crate::name_table::NameTable;
-use sig_base::{Boxed, List, NoMemory, Text};
+use crate::staying::stays;
+use sig_base::{List, NoMemory, Row, Shared, Text};
 use std::alloc::Global;
-use type_core::{Field, NameId, Ty, substitute};
+use type_core::{Field, NameId, Ty, copy, substitute};
 
 /// The name that this one is by now, and the place of its realization, if it has one. Names that were joined
 /// or realized by names are followed one after the other.
@@ -34,9 +35,21 @@ pub fn follow(start: NameId, table: &NameTable, from: usize) -> (NameId, Option<
     (name, None)
 }
 
-/// The type after the realizations from a place on.
+/// The type after all realizations; the same one where it mentions no realized name.
+pub fn resolve(alloc: Global, t: &Ty, table: &NameTable) -> Result<Ty, NoMemory>
+    requires over { IsOver table.now.names t.now }
+    ensures value { IfOk result (λ r. r ≡ resolved table.now.realizations t.now) }
+{
+    if stays(t, table) {
+        copy(alloc, t)
+    } else {
+        resolve_from(alloc, t, table, 0)
+    }
+}
+
+// The type after the realizations from a place on.
 #[cycle(resolve)]
-pub fn resolve_from(alloc: Global, t: &Ty, table: &NameTable, from: usize) -> Result<Ty, NoMemory>
+fn resolve_from(alloc: Global, t: &Ty, table: &NameTable, from: usize) -> Result<Ty, NoMemory>
     requires over { IsOver table.now.names t.now }
     ensures value { IfOk result (λ r. r ≡ resolved (drop from table.now.realizations) t.now) }
 {
@@ -69,8 +82,8 @@ pub fn resolve_from(alloc: Global, t: &Ty, table: &NameTable, from: usize) -> Re
         Ty::Arrow(argument, value) => {
             let argument = resolve_from(alloc, argument.get(), table, from)?;
             let value = resolve_from(alloc, value.get(), table, from)?;
-            let argument = Boxed::new(alloc, argument)?;
-            let value = Boxed::new(alloc, value)?;
+            let argument = Shared::new(alloc, argument)?;
+            let value = Shared::new(alloc, value)?;
             Ok(Ty::Arrow(argument, value))
         }
     }
@@ -82,7 +95,7 @@ fn resolve_all(
     parts: &[Ty],
     table: &NameTable,
     from: usize,
-) -> Result<List<Ty>, NoMemory>
+) -> Result<Row<Ty>, NoMemory>
     requires over { IsTrue (all_true (map (is_over table.now.names) parts.now)) }
     ensures value { IfOk result (λ r. r ≡ map (resolved (drop from table.now.realizations)) parts.now) }
 {
@@ -90,7 +103,7 @@ fn resolve_all(
     for part in parts {
         done.push(resolve_from(alloc, part, table, from)?)?;
     }
-    Ok(done)
+    Row::new(alloc, done)
 }
 
 // The arguments of a body, resolved where it uses them and unit where it drops them: what is dropped may be
@@ -110,7 +123,7 @@ fn resolve_used(
     let mut done = List::new(alloc);
     for (n, argument) in arguments.iter().enumerate() {
         let argument = if lacks(body, n) {
-            Ty::Tup(List::new(alloc))
+            Ty::Tup(Row::empty())
         } else {
             resolve_from(alloc, argument, table, from)?
         };
@@ -125,7 +138,7 @@ fn resolve_fields(
     fields: &[Field],
     table: &NameTable,
     from: usize,
-) -> Result<List<Field>, NoMemory>
+) -> Result<Row<Field>, NoMemory>
     requires over { IsTrue (all_true (map (λ field. is_over table.now.names field.ty) fields.now)) }
     ensures value { IfOk result (λ r. r ≡ map (field_resolved (drop from table.now.realizations)) fields.now) }
 {
@@ -135,5 +148,5 @@ fn resolve_fields(
         let ty = resolve_from(alloc, &field.ty, table, from)?;
         done.push(Field { label, ty })?;
     }
-    Ok(done)
+    Row::new(alloc, done)
 }

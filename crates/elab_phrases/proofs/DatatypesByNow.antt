@@ -11,7 +11,7 @@ use Rattle.elab_rules.specs.declared.progress.Progress.{Progress}
 use Rattle.elab_rules.specs.declared.site.Site.{Site}
 use Rattle.elab_rules.specs.Environments.{Environment, values_in}
 use Rattle.elab_rules.specs.LongIdentifiers as paths
-use Rattle.elab_rules.specs.LongIdentifiers.{parts}
+use Rattle.sig_base.specs.LongIdentifiers.{parts}
 use Rattle.elab_rules.specs.LookUps.{datatype_at, datatype_sought, sought}
 use Rattle.elab_rules.specs.Replications.{replica}
 use Rattle.elab_types.specs.Sources.{text_at}

@@ -17,7 +17,7 @@ use Rattle.elab_rules.specs.declared.refusal.Why.TheVariants.{Unbound}
 use Rattle.elab_rules.specs.declared.site.Site.{Site}
 use Rattle.elab_rules.specs.Environments.{Environment}
 use Rattle.elab_rules.specs.InitialEnvironment.{initial_environment}
-use Rattle.elab_rules.specs.LongIdentifiers.{parts}
+use Rattle.sig_base.specs.LongIdentifiers.{parts}
 use Rattle.elab_rules.specs.LookUps.{Elsewhere, Known, Missing, external_named, function_at, function_sought, sought}
 use Rattle.elab_rules.specs.Outcome.{GivesWith, Outcome}
 use Rattle.elab_types.specs.Outcome.{and_then, failed}

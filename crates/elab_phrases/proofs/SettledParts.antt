@@ -26,7 +26,7 @@ use Rattle.elab_env.proofs.Parts.{nothing_inside}
 use Rattle.elab_env.proofs.Replacing.{avoids_substituted, over_substituted}
 use Rattle.elab_rules.specs.Standing.{IsSettledType}
 use Rattle.elab_types.specs.Records.{all_inserted, in_label_order, inserted, record_of}
-use Rattle.elab_types.specs.Arrows.{arrows, arrows_from}
+use Rattle.type_core.specs.Arrows.{arrows, arrows_from}
 
 pub all_pass : (test : Ty → Bool) (ts : List Ty) → All (λ t. test t ≡ true) ts → all_true (map test ts) ≡ true
 all_pass test [] all = refl
@@ -58,6 +58,10 @@ module _ (table : Table) where
     over = is_over_tup table.names ts ∙ all_pass (is_over table.names) ts (All-weaker (IsSettledType table) (IsOver table.names) (λ t h. h.over) ts all);
     resolved = tuple_resolved table.realizations ts (All-weaker (IsSettledType table) (IsResolved table.realizations) (λ t h. h.resolved) ts all);
   }
+
+  -- the tuple of a list that is equal to one of settled types
+  pub tuple_settled_as : (ts us : List Ty) → us ≡ ts → All (IsSettledType table) ts → IsSettledType table (ty.Tup us)
+  tuple_settled_as ts us same all = subst (λ vs. IsSettledType table (ty.Tup vs)) (sym same) (tuple_settled ts all)
 
   pub arrow_settled : (a b : Ty) → IsSettledType table a → IsSettledType table b → IsSettledType table (ty.Arrow a b)
   arrow_settled a b p q = record {

@@ -13,7 +13,8 @@ use Rattle.elab_rules.specs.declared.scope.Scope.{Scope}
 use Rattle.elab_rules.specs.Bodies.{Site}
 use Rattle.elab_rules.specs.Environments.{Environment, structure_in, type_in}
 use Rattle.elab_types.specs.Finding.{first_given, none_of}
-use Rattle.elab_rules.specs.LongIdentifiers.{found_in, parts, type_along, with_first}
+use Rattle.sig_base.specs.LongIdentifiers.{parts, with_first}
+use Rattle.elab_rules.specs.LongIdentifiers.{found_in, type_along}
 use Rattle.elab_rules.specs.LookUps.{Elsewhere, Missing, along_sought, known, is_top, sought, structure_entries, structure_sought, top_structure, unit_in}
 use Rattle.elab_rules.specs.Views.{around_of}
 use Rattle.elab_rules.specs.Wheres.{types_of}

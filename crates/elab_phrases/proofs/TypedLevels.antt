@@ -12,7 +12,7 @@ use Rattle.type_core.specs.declared.ty.Ty.TheVariants as ty
 use Rattle.elab_types.specs.Outcome.{and_then}
 use Rattle.elab_rules.specs.States.{State}
 use Rattle.elab_rules.specs.Types.{Place, all_typed, field_typed, fields_typed, limited, typed, typed_field_step, typed_step}
-use Rattle.elab_types.specs.Arrows.{arrows}
+use Rattle.type_core.specs.Arrows.{arrows}
 use Rattle.elab_types.specs.Records.{in_label_order, record_of}
 
 typed_fields : (fields : List FieldExp) → typed (e.Fields fields) ≡ typed_step (Fields (map field_typed fields))

@@ -20,7 +20,7 @@ use elab_rules::progress::Progress;
 use elab_rules::refusal::{ElabRefusal, Why};
 use elab_rules::site::Site;
 use elab_rules::variables::Variables;
-use sig_base::{Boxed, NoMemory};
+use sig_base::{NoMemory, Shared};
 use sig_parser::{ConDesc, TypeAt};
 use std::alloc::Global;
 use type_core::{Kind, Ty, copy};
@@ -56,7 +56,7 @@ fn type_of_constructor(
                 own: seen,
             };
             let from = type_of(alloc, &argument.ty, &place, progress)?;
-            let whole = Ty::Arrow(Boxed::new(alloc, from)?, Boxed::new(alloc, made)?);
+            let whole = Ty::Arrow(Shared::new(alloc, from)?, Shared::new(alloc, made)?);
             if !is_small(&whole) {
                 return Err(ElabRefusal::Refused(Why::TypeTooLarge, argument.first));
             }
@@ -131,7 +131,7 @@ pub fn describe_exceptions(
     ensures mentions { OnOk result (Mentions progress.old progress.new) }
 {
     progress.table.is_sound();
-    let made = constant(alloc, EXN);
+    let made = constant(EXN);
     let family = Family {
         kind: Kind::Exn,
         made: &made,

@@ -2,7 +2,7 @@
 ghost use Rattle.type_core.specs.declared.names.TypeName.{TypeName};
 ghost use Rattle.std.specs.Prelude.{◌≡◌, IfOk, OnOk, IfSome, List};
 ghost use Rattle.elab_env.specs.Realizations.{function_resolved};
-ghost use Rattle.elab_rules.specs.LongIdentifiers.{parts};
+ghost use Rattle.sig_base.specs.LongIdentifiers.{parts};
 ghost use Rattle.elab_rules.specs.LookUps as spec;
 ghost use Rattle.elab_rules.specs.Outcome.{GivesWith};
 ghost use Rattle.elab_rules.specs.Standing.{IsSettledType, Mentions, Sees, IsFoundOver, IsSoughtOver, SeesOver};
@@ -11,13 +11,13 @@ ghost use Rattle.elab_rules.specs.Views.{bodies_seen, body_at, entries_seen, fou
 
 use elab_env::{NameTable, name_function};
 use elab_rules::found::{Found, Sought};
-use elab_rules::long_identifiers::{first_dot, type_along};
+use elab_rules::long_identifiers::type_along;
 use elab_rules::progress::Progress;
 use elab_rules::refusal::{ElabRefusal, Why};
 use elab_rules::scope::Scope;
 use elab_rules::site::Site;
 use elab_types::as_number;
-use sig_base::NoMemory;
+use sig_base::{NoMemory, first_dot};
 use std::alloc::Global;
 use type_core::TypeFn;
 
@@ -70,8 +70,8 @@ fn is_top(id: &[u8], site: &Site<'_>) -> bool
     site.tops.has(id) || site.declaring.has(id)
 }
 
-/// The type constructor of a long identifier.
-pub fn sought<'a>(path: &[u8], site: &Site<'a>, own: Scope<'a>) -> Sought<'a>
+// The type constructor of a long identifier.
+fn sought<'a>(path: &[u8], site: &Site<'a>, own: Scope<'a>) -> Sought<'a>
     ensures value { sought_of result ≡ spec.sought (parts path.now) (site_of site.now) (bodies_seen own.entry site.now) }
     ensures over { (names : List TypeName) → SeesOver names site.now own.entry.entries.now → IsSoughtOver names result }
 {

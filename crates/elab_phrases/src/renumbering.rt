@@ -1,5 +1,5 @@
 // Types whose names are numbered anew.
-ghost use Rattle.std.specs.Prelude.{◌≡◌, ◌+◌, ◌<◌, IfOk, length, map};
+ghost use Rattle.std.specs.Prelude.{◌≡◌, ◌+◌, ◌<◌, IfOk, IsTrue, length, map};
 ghost use Rattle.elab_rules.specs.Copies.{with_numbers};
 ghost use Rattle.elab_rules.specs.Replacing.{entry_with, environment_with, type_with, value_with};
 ghost use Rattle.elab_phrases.specs.Renumbering.{field_with_numbers, numbers_of, unit_with_numbers};
@@ -8,9 +8,9 @@ use elab_rules::closing::scheme_of;
 use elab_rules::copying::copy_texts;
 use elab_rules::entry::{Entry, TypeEntry, UnitEntry, ValueEntry};
 use elab_rules::own_names::OwnNames;
-use sig_base::{Boxed, List, NoMemory, Text};
+use sig_base::{List, NoMemory, Row, Shared, Text};
 use std::alloc::Global;
-use type_core::{Field, NameId, Ty, TypeFn};
+use type_core::{Field, NameId, Ty, TypeFn, copy};
 
 /// How names are numbered anew.
 #[derive(Clone, Copy)]
@@ -42,61 +42,116 @@ impl Numbering<'_> {
     }
 }
 
-/// A type with its names numbered anew.
+// A type with its names numbered anew; the same one where each keeps its number.
+fn renumbered(alloc: Global, t: &Ty, numbering: &Numbering<'_>) -> Result<Ty, NoMemory>
+    ensures value { IfOk result (λ r. r ≡ with_numbers (numbers_of numbering.now) t.now) }
+{
+    if numbers_stay(t, numbering) {
+        copy(alloc, t)
+    } else {
+        renumber(alloc, t, numbering)
+    }
+}
+
+// Whether a name keeps its number.
+fn number_stays(n: u32, numbering: &Numbering<'_>) -> bool
+    ensures value { IsTrue result → numbers_of numbering.now n ≡ n }
+{
+    match numbering.number(n) {
+        Ok(m) => m == n,
+        Err(NoMemory) => false,
+    }
+}
+
+// Whether each name of a type keeps its number.
+#[cycle(numbers)]
+fn numbers_stay(t: &Ty, numbering: &Numbering<'_>) -> bool
+    ensures value { IsTrue result → with_numbers (numbers_of numbering.now) t.now ≡ t.now }
+{
+    match t {
+        Ty::Var(_) => true,
+        Ty::Con(name, arguments) => {
+            number_stays(name.0, numbering) && all_numbers_stay(arguments.as_slice(), numbering)
+        }
+        Ty::Rec(fields) => field_numbers_stay(fields.as_slice(), numbering),
+        Ty::Tup(components) => all_numbers_stay(components.as_slice(), numbering),
+        Ty::Arrow(from, to) => {
+            numbers_stay(from.get(), numbering) && numbers_stay(to.get(), numbering)
+        }
+    }
+}
+
+#[cycle(numbers)]
+fn all_numbers_stay(parts: &[Ty], numbering: &Numbering<'_>) -> bool
+    ensures value { IsTrue result → map (with_numbers (numbers_of numbering.now)) parts.now ≡ parts.now }
+{
+    for part in parts {
+        if !numbers_stay(part, numbering) {
+            return false;
+        }
+    }
+    true
+}
+
+#[cycle(numbers)]
+fn field_numbers_stay(parts: &[Field], numbering: &Numbering<'_>) -> bool
+    ensures value { IsTrue result → map (field_with_numbers (numbers_of numbering.now)) parts.now ≡ parts.now }
+{
+    for part in parts {
+        if !numbers_stay(&part.ty, numbering) {
+            return false;
+        }
+    }
+    true
+}
+
+// A type built again with its names numbered anew.
 #[cycle(renumbering)]
-pub fn renumbered(alloc: Global, t: &Ty, numbering: &Numbering<'_>) -> Result<Ty, NoMemory>
+fn renumber(alloc: Global, t: &Ty, numbering: &Numbering<'_>) -> Result<Ty, NoMemory>
     ensures value { IfOk result (λ r. r ≡ with_numbers (numbers_of numbering.now) t.now) }
 {
     match t {
         Ty::Var(v) => Ok(Ty::Var(*v)),
         Ty::Con(name, arguments) => {
-            let arguments = all_renumbered(alloc, arguments.as_slice(), numbering)?;
+            let arguments = renumber_all(alloc, arguments.as_slice(), numbering)?;
             Ok(Ty::Con(NameId(numbering.number(name.0)?), arguments))
         }
-        Ty::Rec(fields) => Ok(Ty::Rec(fields_renumbered(alloc, fields.as_slice(), numbering)?)),
-        Ty::Tup(components) => Ok(Ty::Tup(all_renumbered(
-            alloc,
-            components.as_slice(),
-            numbering,
-        )?)),
+        Ty::Rec(fields) => Ok(Ty::Rec(renumber_fields(alloc, fields.as_slice(), numbering)?)),
+        Ty::Tup(components) => Ok(Ty::Tup(renumber_all(alloc, components.as_slice(), numbering)?)),
         Ty::Arrow(from, to) => {
-            let from = renumbered(alloc, from.get(), numbering)?;
-            let to = renumbered(alloc, to.get(), numbering)?;
-            Ok(Ty::Arrow(Boxed::new(alloc, from)?, Boxed::new(alloc, to)?))
+            let from = renumber(alloc, from.get(), numbering)?;
+            let to = renumber(alloc, to.get(), numbering)?;
+            Ok(Ty::Arrow(Shared::new(alloc, from)?, Shared::new(alloc, to)?))
         }
     }
 }
 
 #[cycle(renumbering)]
-fn all_renumbered(
-    alloc: Global,
-    parts: &[Ty],
-    numbering: &Numbering<'_>,
-) -> Result<List<Ty>, NoMemory>
+fn renumber_all(alloc: Global, parts: &[Ty], numbering: &Numbering<'_>) -> Result<Row<Ty>, NoMemory>
     ensures value { IfOk result (λ rs. rs ≡ map (with_numbers (numbers_of numbering.now)) parts.now) }
 {
     let mut types = List::new(alloc);
     for part in parts {
-        types.push(renumbered(alloc, part, numbering)?)?;
+        types.push(renumber(alloc, part, numbering)?)?;
     }
-    Ok(types)
+    Row::new(alloc, types)
 }
 
 #[cycle(renumbering)]
-fn fields_renumbered(
+fn renumber_fields(
     alloc: Global,
     parts: &[Field],
     numbering: &Numbering<'_>,
-) -> Result<List<Field>, NoMemory>
+) -> Result<Row<Field>, NoMemory>
     ensures value { IfOk result (λ rs. rs ≡ map (field_with_numbers (numbers_of numbering.now)) parts.now) }
 {
     let mut fields = List::new(alloc);
     for part in parts {
         let label = Text::from_slice(alloc, part.label.as_slice())?;
-        let ty = renumbered(alloc, &part.ty, numbering)?;
+        let ty = renumber(alloc, &part.ty, numbering)?;
         fields.push(Field { label, ty })?;
     }
-    Ok(fields)
+    Row::new(alloc, fields)
 }
 
 // A type constructor with its names numbered anew.

@@ -13,12 +13,8 @@ use elab_rules::entry::{Entry, TypeEntry, ValueEntry};
 use sig_base::{List, NoMemory, Text};
 use std::alloc::Global;
 
-/// A type constructor, with what it means by now.
-pub fn type_by_now(
-    alloc: Global,
-    entry: &TypeEntry,
-    table: &NameTable,
-) -> Result<TypeEntry, NoMemory>
+// A type constructor, with what it means by now.
+fn type_by_now(alloc: Global, entry: &TypeEntry, table: &NameTable) -> Result<TypeEntry, NoMemory>
     requires over { IsOver table.now.names entry.now.fun.body }
     ensures value { IfOk result (λ settled. settled ≡ type_with (resolved_by table.now.realizations) entry.now) }
 {

@@ -12,13 +12,13 @@ ghost use Rattle.elab_types.specs.Views.{texts};
 ghost use Rattle.type_core.specs.Variables.{occurs, place, same_variable};
 
 use crate::look_ups::function_at;
-use elab_rules::limits::{arrows, limited, record};
+use elab_rules::limits::{arrows, limited, record, tuple};
 use elab_rules::place::Place;
 use elab_rules::progress::Progress;
 use elab_rules::refusal::{ElabRefusal, Why};
 use elab_rules::variables::Variables;
 use elab_types::{Places, is_qualified};
-use sig_base::{List, NoMemory, Text};
+use sig_base::{List, NoMemory, Row, Text};
 use std::alloc::Global;
 use ty_parser::{FieldExp, TyExp};
 use type_core::{Field, Ty, VarId, apply_fn};
@@ -122,6 +122,7 @@ fn constructed_all(
     ensures grew { OnOk result (Mentions progress.old progress.new) }
 {
     let [first, others @ ..] = constructors else {
+        let arguments = Row::new(alloc, arguments)?;
         return Ok(Ty::Tup(arguments));
     };
     let mut t = constructed(alloc, place, *first, &arguments, progress)?;
@@ -154,7 +155,7 @@ pub fn type_of(
         }
         TyExp::Tuple(parts) => {
             let parts = all_types(alloc, parts.as_slice(), place, progress)?;
-            limited(place.first, Ty::Tup(parts))
+            tuple(alloc, place.first, parts)
         }
         TyExp::Arrows(sides) => {
             let sides = all_types(alloc, sides.as_slice(), place, progress)?;

@@ -12,7 +12,8 @@ use Rattle.elab_rules.specs.declared.site.Site.{Site}
 use Rattle.elab_rules.specs.Bodies as bodies
 use Rattle.elab_rules.specs.Bodies.{Described}
 use Rattle.elab_rules.specs.Environments.{Environment}
-use Rattle.elab_rules.specs.LongIdentifiers.{Found, parts, type_along}
+use Rattle.sig_base.specs.LongIdentifiers.{parts}
+use Rattle.elab_rules.specs.LongIdentifiers.{Found, type_along}
 use Rattle.elab_rules.specs.Outcome.{Outcome}
 use Rattle.elab_types.specs.Outcome.{and_then, checked, failed, required}
 use Rattle.elab_rules.specs.Replacing.{flexible}

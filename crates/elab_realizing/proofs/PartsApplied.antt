@@ -16,7 +16,8 @@ use Rattle.elab_rules.specs.declared.site.Site.{Site}
 use Rattle.elab_rules.specs.Bodies as bodies
 use Rattle.elab_rules.specs.Bodies.{Described}
 use Rattle.elab_rules.specs.Environments.{Environment}
-use Rattle.elab_rules.specs.LongIdentifiers.{Found, parts, type_along}
+use Rattle.sig_base.specs.LongIdentifiers.{parts}
+use Rattle.elab_rules.specs.LongIdentifiers.{Found, type_along}
 use Rattle.elab_rules.specs.Outcome.{Gives, GivesWith, Outcome}
 use Rattle.elab_types.specs.Outcome.{and_then, failed, required}
 use Rattle.elab_rules.specs.Parameters.{parameters_checked, variables_at}

@@ -13,7 +13,8 @@ use Rattle.elab_rules.specs.declared.scope.Scope.{Scope}
 use Rattle.elab_rules.specs.Bodies.{Described, Site}
 use Rattle.elab_rules.specs.Environments.{Environment}
 use Rattle.elab_rules.specs.Joining.{ArePlacedAt}
-use Rattle.elab_rules.specs.LongIdentifiers.{parts, structure_along}
+use Rattle.sig_base.specs.LongIdentifiers.{parts}
+use Rattle.elab_rules.specs.LongIdentifiers.{structure_along}
 use Rattle.elab_rules.specs.Outcome.{Outcome}
 use Rattle.elab_types.specs.Outcome.{and_then, checked, failed}
 use Rattle.elab_rules.specs.Replacing.{environment_with}

@@ -41,7 +41,7 @@ use elab_types::as_number;
 use sig_base::NoMemory;
 use sig_parser::WherePart;
 use std::alloc::Global;
-use type_core::{Equality, NameId, Ty, TypeFn, is_proper_type, is_type_fn};
+use type_core::{Equality, NameId, Ty, TypeFn, is_type, is_type_fn};
 
 // Whether a type constructor denotes the name by now and has constructors.
 fn is_datatype_of(
@@ -257,7 +257,7 @@ fn may_be_realized(name: NameId, fun: &TypeFn) -> bool
     ensures body { IsTrue result → IsType fun.now.body }
     ensures avoids { IsTrue result → Avoids name.0 fun.now.body }
 {
-    is_type_fn(fun) && is_proper_type(&fun.body) && avoids(&fun.body, name)
+    is_type_fn(fun) && is_type(&fun.body) && avoids(&fun.body, name)
 }
 
 // Puts a type function in the place of a free name. A function that may not stand there, as none is that a

@@ -4,7 +4,8 @@ use Rattle.std.specs.Option.{option_and_then}
 use Rattle.type_core.specs.declared.names.TypeName.{TypeName}
 use Rattle.type_core.specs.Types.{IsOver}
 use Rattle.elab_rules.specs.Environments.{Environment, structure_in}
-use Rattle.elab_rules.specs.LongIdentifiers.{parts, structure_along, type_along, with_first}
+use Rattle.sig_base.specs.LongIdentifiers.{parts, with_first}
+use Rattle.elab_rules.specs.LongIdentifiers.{structure_along, type_along}
 use Rattle.elab_rules.specs.Standing.{AreOver}
 use Rattle.elab_rules.proofs.FoundOver.{structure_in_over}
 

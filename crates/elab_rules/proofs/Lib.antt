@@ -2,7 +2,6 @@ pub mod Bodies
 pub mod Pushed
 pub mod Outcomes
 pub mod ManyFields
-pub mod LabelBytes
 pub mod ParameterTexts
 pub mod PlacedUnits
 pub mod Entries
@@ -14,7 +13,6 @@ pub mod Tracked
 pub mod FoundOver
 pub mod SeenEntries
 pub mod DetailsMore
-pub mod DottedParts
 pub mod FoundSeen
 pub mod NumbersPlaced
 pub mod UnitsFound

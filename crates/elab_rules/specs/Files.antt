@@ -15,7 +15,7 @@ use Rattle.elab_rules.specs.Bodies.{Site}
 use Rattle.elab_rules.specs.Environments.{Environment}
 use Rattle.elab_types.specs.Finding.{none_of}
 use Rattle.elab_rules.specs.Library.{Basis, library}
-use Rattle.elab_rules.specs.LongIdentifiers.{parts}
+use Rattle.sig_base.specs.LongIdentifiers.{parts}
 use Rattle.elab_rules.specs.Outcome.{Outcome}
 use Rattle.elab_types.specs.Outcome.{and_then, checked}
 use Rattle.elab_types.specs.Sources.{text_at}

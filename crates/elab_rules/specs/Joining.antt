@@ -6,7 +6,8 @@ use Rattle.elab_rules.specs.declared.entry.Entry.{Entry}
 use Rattle.elab_rules.specs.declared.scope.Scope.{Scope}
 use Rattle.elab_rules.specs.Bodies.{Site}
 use Rattle.elab_rules.specs.Environments.{Environment}
-use Rattle.elab_rules.specs.LongIdentifiers.{parts, structure_along}
+use Rattle.sig_base.specs.LongIdentifiers.{parts}
+use Rattle.elab_rules.specs.LongIdentifiers.{structure_along}
 use Rattle.elab_types.specs.Sources.{text_at}
 
 -- the table after two names were joined

@@ -1,19 +1,9 @@
--- Long identifiers, and what stands along them in environments.
-use Rattle.std.specs.Prelude.{ℕ, ◌==◌, if◌then◌else◌, List, [], ◌∷◌, Option, Some, None}
+-- What stands along the parts of long identifiers in environments.
+use Rattle.std.specs.Prelude.{ℕ, List, [], ◌∷◌, Option, Some, None}
 use Rattle.std.specs.Option.{option_and_then}
 use Rattle.elab_rules.specs.declared.entry.TypeEntry.{TypeEntry}
 use Rattle.elab_rules.specs.declared.entry.ValueEntry.{ValueEntry}
 use Rattle.elab_rules.specs.Environments.{Environment, structure_in, type_in, values_in}
-
--- parts of which the first begins with one more byte
-abbrev pub with_first : ℕ → List (List ℕ) → List (List ℕ)
-with_first b [] = (b ∷ []) ∷ []
-with_first b (part ∷ parts) = (b ∷ part) ∷ parts
-
--- the parts of a text, between which dots stand
-abbrev pub parts : List ℕ → List (List ℕ)
-parts [] = [] ∷ []
-parts (b ∷ text) = if b == 46 then [] ∷ parts text else with_first b (parts text)
 
 -- a type constructor that was found, and its constructors
 pub record Found : Type 0 where

@@ -12,7 +12,8 @@ use Rattle.elab_rules.specs.Bodies.{Site}
 use Rattle.elab_rules.specs.Environments.{Environment, structure_in, type_in}
 use Rattle.elab_types.specs.Finding.{first_given, none_of}
 use Rattle.elab_rules.specs.InitialEnvironment.{initial_environment}
-use Rattle.elab_rules.specs.LongIdentifiers.{Found, found_in, parts, type_along}
+use Rattle.sig_base.specs.LongIdentifiers.{parts}
+use Rattle.elab_rules.specs.LongIdentifiers.{Found, found_in, type_along}
 use Rattle.elab_rules.specs.Outcome.{Outcome}
 use Rattle.elab_types.specs.Outcome.{and_then, failed}
 use Rattle.elab_types.specs.Sources.{text_at}

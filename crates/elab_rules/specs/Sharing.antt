@@ -12,7 +12,8 @@ use Rattle.elab_rules.specs.declared.entry.Entry.TheFolds.{fold-Entry}
 use Rattle.elab_rules.specs.declared.refusal.Why.TheVariants.{Unbound, NotFlexible, ArityClash}
 use Rattle.elab_rules.specs.Bodies.{Site, Described, Specified}
 use Rattle.elab_rules.specs.Environments.{Environment}
-use Rattle.elab_rules.specs.LongIdentifiers.{Found, parts, structure_along, type_along}
+use Rattle.sig_base.specs.LongIdentifiers.{parts}
+use Rattle.elab_rules.specs.LongIdentifiers.{Found, structure_along, type_along}
 use Rattle.elab_rules.specs.Outcome.{Outcome}
 use Rattle.elab_types.specs.Outcome.{and_then, checked, required}
 use Rattle.elab_rules.specs.Replacing.{flexible, replaced_in}

@@ -12,7 +12,8 @@ use Rattle.type_core.specs.declared.type_fn.TypeFn.{TypeFn}
 use Rattle.type_core.specs.InitialNames.{initial_names}
 use Rattle.type_core.specs.Lists.{all_true, concatenated, sum_of}
 use Rattle.type_core.specs.NormalSize.{normal_size_of}
-use Rattle.type_core.specs.Paths.{IsMemberIdentifier, IsShort, IsTypeIdentifier, IsTypePath}
+use Rattle.sig_base.specs.LongIdentifiers.{IsShort, parts}
+use Rattle.type_core.specs.Paths.{IsMemberIdentifier, IsTypeIdentifier, IsTypePath}
 use Rattle.type_core.specs.Schemes.{IsScheme}
 use Rattle.type_core.specs.TypeFunctions.{IsTypeFn}
 use Rattle.type_core.specs.Types.{IsType, takes}
@@ -26,7 +27,6 @@ use Rattle.elab_rules.specs.Distinct.{AreDistinct}
 use Rattle.elab_rules.specs.Environments.{Environment, the_structure, the_type, the_value}
 use Rattle.elab_rules.specs.Files.{first_of}
 use Rattle.elab_rules.specs.Library.{Basis, entry_tycons, kept_names, library}
-use Rattle.elab_rules.specs.LongIdentifiers.{parts}
 use Rattle.elab_rules.specs.States.{State}
 
 -- which names may stand in a type, by their numbers and by how many arguments they are applied to

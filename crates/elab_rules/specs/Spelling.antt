@@ -20,7 +20,8 @@ use Rattle.ty_parser.specs.declared.tree.FieldExp.{FieldExp}
 use Rattle.ty_parser.specs.declared.tree.TyExp.{TyExp}
 use Rattle.ty_parser.specs.declared.tree.TyExp.TheVariants as ty
 use Rattle.ty_parser.specs.declared.tree.TypeAt.{TypeAt}
-use Rattle.type_core.specs.Paths.{IsLong, IsMemberIdentifier, IsShort, IsTypeIdentifier}
+use Rattle.sig_base.specs.LongIdentifiers.{IsShort}
+use Rattle.type_core.specs.Paths.{IsLongTypeIdentifier, IsMemberIdentifier, IsTypeIdentifier}
 use Rattle.type_core.specs.ValidLibrary.{IsLabel}
 use Rattle.elab_types.specs.Sources.{text_at}
 
@@ -35,7 +36,7 @@ NamesType texts token = IsTypeIdentifier (text_at texts token) × IsShort (text_
 -- the token can stand for a type constructor in a type: a long identifier whose last part is other than `*`, each part of
 -- at most 255 bytes
 abbrev pub NamesLongType : List (List ℕ) → ℕ → Type 0
-NamesLongType texts token = IsLong IsTypeIdentifier (text_at texts token)
+NamesLongType texts token = IsLongTypeIdentifier (text_at texts token)
 
 -- the token can name a value, a constructor or an exception: an identifier or `=`, of at most 255 bytes
 abbrev pub NamesValue : List (List ℕ) → ℕ → Type 0

@@ -15,7 +15,7 @@ use Rattle.type_core.specs.Variables.{occurs, place}
 use Rattle.elab_rules.specs.declared.refusal.Why.TheVariants.{WrongArity, Duplicate, FreeVariable, TypeTooLarge, TypeTooHigh}
 use Rattle.elab_rules.specs.Bodies.{Site}
 use Rattle.elab_rules.specs.Environments.{Environment}
-use Rattle.elab_types.specs.Arrows.{arrows}
+use Rattle.type_core.specs.Arrows.{arrows}
 use Rattle.elab_rules.specs.LookUps.{function_at}
 use Rattle.elab_rules.specs.Outcome.{Outcome}
 use Rattle.elab_types.specs.Outcome.{and_then, checked}

@@ -16,7 +16,8 @@ use Rattle.elab_rules.specs.declared.refusal.Why.TheVariants.{ArityClash, BadRea
 use Rattle.elab_rules.specs.Bodies.{Site, Described}
 use Rattle.elab_rules.specs.Environments.{Environment}
 use Rattle.elab_rules.specs.Equality.{admits, is_never}
-use Rattle.elab_rules.specs.LongIdentifiers.{parts, type_along}
+use Rattle.sig_base.specs.LongIdentifiers.{parts}
+use Rattle.elab_rules.specs.LongIdentifiers.{type_along}
 use Rattle.elab_rules.specs.Outcome.{Outcome}
 use Rattle.elab_types.specs.Outcome.{and_then, checked, required}
 use Rattle.elab_rules.specs.Parameters.{parameters_checked, variables_at}

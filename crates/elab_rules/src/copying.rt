@@ -1,7 +1,7 @@
 // Copies of what was described.
 ghost use Rattle.std.specs.Prelude.{◌≡◌, IfOk};
 
-use crate::entry::{TypeEntry, ValueEntry};
+use crate::entry::ValueEntry;
 use sig_base::{List, NoMemory, Text};
 use std::alloc::Global;
 use type_core::{Scheme, TypeFn, TypeName, copy};
@@ -35,17 +35,6 @@ pub fn copy_texts(alloc: Global, texts: &[Text]) -> Result<List<Text>, NoMemory>
         copies.push(Text::from_slice(alloc, text.as_slice())?)?;
     }
     Ok(copies)
-}
-
-/// A copy of a type constructor.
-pub fn copy_type(alloc: Global, entry: &TypeEntry) -> Result<TypeEntry, NoMemory>
-    ensures value { IfOk result (λ copy. copy ≡ entry.now) }
-{
-    Ok(TypeEntry {
-        id: Text::from_slice(alloc, entry.id.as_slice())?,
-        fun: copy_function(alloc, &entry.fun)?,
-        constructors: copy_texts(alloc, entry.constructors.as_slice())?,
-    })
 }
 
 /// A copy of a value.

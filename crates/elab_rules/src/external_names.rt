@@ -12,12 +12,11 @@ ghost use Rattle.elab_rules.specs.Views.{GivesNumber, state_of};
 ghost use Rattle.type_core.specs.Lists.{sum_of};
 ghost use Rattle.type_core.specs.Weight.{name_weight};
 
-use crate::long_identifiers::first_dot;
 use crate::progress::Progress;
 use crate::refusal::ElabRefusal;
 use elab_env::NameTable;
 use elab_types::Places;
-use sig_base::{NoMemory, Text};
+use sig_base::{NoMemory, Text, first_dot};
 use std::alloc::Global;
 use type_core::NameId;
 

@@ -5,7 +5,7 @@ ghost use Rattle.elab_rules.specs.InitialEnvironment.{alpha, base_constructors, 
 ghost use Rattle.elab_rules.specs.Environments.{the_value};
 
 use crate::entry::{Entry, TypeEntry, ValueEntry};
-use sig_base::{Boxed, List, NoMemory, Text};
+use sig_base::{List, NoMemory, Row, Shared, Text};
 use std::alloc::Global;
 use type_core::{Kind, NameId, Scheme, Ty, TypeFn, VarId};
 
@@ -71,7 +71,7 @@ fn push_unary_constructors(alloc: Global, env: &mut List<Entry>) -> Result<(), N
 fn push_base(alloc: Global, env: &mut List<Entry>, id: &[u8], n: u32) -> Result<(), NoMemory>
     ensures pushed { OnOk result (env.new ≡ env.old ++ base_type id.now n [] ∷ []) }
 {
-    push_type(alloc, env, id, 0, constant(alloc, n), List::new(alloc))
+    push_type(alloc, env, id, 0, constant(n), List::new(alloc))
 }
 
 // A type constructor of one argument, without constructors.
@@ -85,14 +85,14 @@ fn push_bool(alloc: Global, env: &mut List<Entry>) -> Result<(), NoMemory>
     ensures pushed { OnOk result (env.new ≡ env.old ++ spec.bool_type ∷ []) }
 {
     let constructors = two(alloc, b"false", b"true")?;
-    push_type(alloc, env, b"bool", 0, constant(alloc, 7), constructors)
+    push_type(alloc, env, b"bool", 0, constant(7), constructors)
 }
 
 fn push_order(alloc: Global, env: &mut List<Entry>) -> Result<(), NoMemory>
     ensures pushed { OnOk result (env.new ≡ env.old ++ spec.order_type ∷ []) }
 {
     let constructors = three(alloc, b"LESS", b"EQUAL", b"GREATER")?;
-    push_type(alloc, env, b"order", 0, constant(alloc, 8), constructors)
+    push_type(alloc, env, b"order", 0, constant(8), constructors)
 }
 
 fn push_list(alloc: Global, env: &mut List<Entry>) -> Result<(), NoMemory>
@@ -124,7 +124,7 @@ fn push_unit(alloc: Global, env: &mut List<Entry>) -> Result<(), NoMemory>
         env,
         b"unit",
         0,
-        Ty::Tup(List::new(alloc)),
+        Ty::Tup(Row::empty()),
         List::new(alloc),
     )
 }
@@ -133,7 +133,7 @@ fn push_unit(alloc: Global, env: &mut List<Entry>) -> Result<(), NoMemory>
 fn push_constant(alloc: Global, env: &mut List<Entry>, id: &[u8], n: u32) -> Result<(), NoMemory>
     ensures pushed { OnOk result (env.new ≡ env.old ++ spec.constructor id.now 0 (constant n) ∷ []) }
 {
-    push_constructor(alloc, env, id, 0, constant(alloc, n))
+    push_constructor(alloc, env, id, 0, constant(n))
 }
 
 // A constructor that is a value of a type of one argument.
@@ -202,10 +202,10 @@ fn alpha() -> Ty
 }
 
 // The initial name of this number.
-pub fn constant(alloc: Global, n: u32) -> Ty
+pub fn constant(n: u32) -> Ty
     ensures value { result ≡ constant n }
 {
-    Ty::Con(NameId(n), List::new(alloc))
+    Ty::Con(NameId(n), Row::empty())
 }
 
 // The initial name of this number, applied to the first variable.
@@ -214,6 +214,7 @@ fn unary(alloc: Global, n: u32) -> Result<Ty, NoMemory>
 {
     let mut arguments = List::new(alloc);
     arguments.push(alpha())?;
+    let arguments = Row::new(alloc, arguments)?;
     Ok(Ty::Con(NameId(n), arguments))
 }
 
@@ -223,13 +224,14 @@ fn pair(alloc: Global, first: Ty, second: Ty) -> Result<Ty, NoMemory>
     let mut components = List::new(alloc);
     components.push(first)?;
     components.push(second)?;
+    let components = Row::new(alloc, components)?;
     Ok(Ty::Tup(components))
 }
 
 fn arrow(alloc: Global, from: Ty, to: Ty) -> Result<Ty, NoMemory>
     ensures value { IfOk result (λ t. t ≡ spec.arrow from to) }
 {
-    Ok(Ty::Arrow(Boxed::new(alloc, from)?, Boxed::new(alloc, to)?))
+    Ok(Ty::Arrow(Shared::new(alloc, from)?, Shared::new(alloc, to)?))
 }
 
 fn one(alloc: Global, id: &[u8]) -> Result<List<Text>, NoMemory>

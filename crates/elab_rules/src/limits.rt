@@ -1,6 +1,6 @@
 // The limits on types.
 ghost use Rattle.std.specs.Prelude.{◌≡◌, min, map, nat_le};
-ghost use Rattle.elab_types.specs.Arrows.{arrows as chain};
+ghost use Rattle.type_core.specs.Arrows.{arrows as chain};
 ghost use Rattle.elab_types.specs.Records.{in_label_order, record_of};
 ghost use Rattle.elab_rules.specs.Outcome.{GivesWith};
 ghost use Rattle.elab_rules.specs.States.{State};
@@ -9,10 +9,11 @@ ghost use Rattle.type_core.specs.Height.{height_of};
 ghost use Rattle.type_core.specs.Lists.{sum_of};
 ghost use Rattle.type_core.specs.NormalSize.{normal_size_of};
 ghost use Rattle.type_core.specs.Size.{size_of};
+ghost use Rattle.type_core.specs.declared.ty.Ty.TheVariants as ty;
 
 use crate::refusal::{ElabRefusal, Why};
 use elab_types::{arrows_size, records_have_nodes};
-use sig_base::List;
+use sig_base::{List, Row};
 use std::alloc::Global;
 use type_core::{Field, Ty, height, normal_size, size};
 
@@ -57,6 +58,14 @@ pub fn limited(first: u32, t: Ty) -> Result<Ty, ElabRefusal>
         return Err(ElabRefusal::Refused(Why::TypeTooHigh, first));
     }
     Ok(t)
+}
+
+/// The tuple of types, within the limits.
+pub fn tuple(alloc: Global, first: u32, parts: List<Ty>) -> Result<Ty, ElabRefusal>
+    ensures outcome { (s : State) → GivesWith (spec.limited first (ty.Tup parts) s) result s }
+{
+    let parts = Row::new(alloc, parts)?;
+    limited(first, Ty::Tup(parts))
 }
 
 // Whether the types with arrows between them have at most 2,000 nodes.

@@ -1,26 +1,15 @@
-// Long identifiers, and what stands along them in environments.
+// What stands along the parts of long identifiers in environments.
 ghost use Rattle.type_core.specs.declared.names.TypeName.{TypeName};
 ghost use Rattle.elab_rules.specs.Environments.{type_in};
 ghost use Rattle.elab_rules.specs.Standing.{AreOver, IsFoundOver};
 ghost use Rattle.std.specs.Prelude.{◌≡◌, ◌<◌, ◌+◌, ◌∷◌, [], MatchOption, drop, length, take, IfSome, List};
 ghost use Rattle.elab_rules.specs.LongIdentifiers as spec;
-ghost use Rattle.elab_rules.specs.LongIdentifiers.{parts};
+ghost use Rattle.sig_base.specs.LongIdentifiers.{parts};
 ghost use Rattle.elab_rules.specs.Views.{entries_seen, found_seen};
 
 use crate::found::Found;
 use crate::scope::Scope;
-
-/// The place of the first dot of a text.
-pub fn first_dot(text: &[u8]) -> Option<usize>
-    ensures value { MatchOption result (parts text.now ≡ text.now ∷ []) (λ dot. (dot < length text.now) × (parts text.now ≡ take dot text.now ∷ parts (drop (dot + 1) text.now))) }
-{
-    for (i, b) in text.iter().enumerate() {
-        if *b == b'.' {
-            return Some(i);
-        }
-    }
-    None
-}
+use sig_base::first_dot;
 
 // The type constructor of this identifier, with its environment.
 fn found_in<'a>(id: &[u8], env: Scope<'a>) -> Option<Found<'a>>

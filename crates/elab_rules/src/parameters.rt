@@ -7,7 +7,7 @@ ghost use Rattle.elab_types.specs.Views.{texts};
 
 use crate::refusal::{ElabRefusal, Why};
 use elab_types::{Places, Source};
-use sig_base::{List, NoMemory};
+use sig_base::{List, NoMemory, Row};
 use std::alloc::Global;
 use type_core::{NameId, Ty, VarId};
 
@@ -46,7 +46,7 @@ pub fn variables_at(
 }
 
 // The parameters as types, which keep their marks.
-fn numbered(alloc: Global, parameters: &[VarId]) -> Result<List<Ty>, NoMemory>
+fn numbered(alloc: Global, parameters: &[VarId]) -> Result<Row<Ty>, NoMemory>
     ensures value { IfOk result (λ ts. ts ≡ numbered_from 0 parameters.now) }
 {
     let mut types = List::new(alloc);
@@ -56,7 +56,7 @@ fn numbered(alloc: Global, parameters: &[VarId]) -> Result<List<Ty>, NoMemory>
             Ok(n) => types.push(Ty::Var(VarId { n, eq: v.eq }))?,
         }
     }
-    Ok(types)
+    Row::new(alloc, types)
 }
 
 /// The name applied to its parameters in order, which keep their marks.

@@ -1,5 +1,5 @@
 -- Fields of record types, and their order.
-use Rattle.std.proofs.Common.{◌≡◌, ◌≢◌, ℕ, Bool, true, false, true≢false, not, is_some, if◌then◌else◌, List, [], ◌∷◌, ◌++◌, map, insert, bytes_eq, Option, refl, sym, ap, ◌∙◌}
+use Rattle.std.proofs.Common.{◌≡◌, ◌≢◌, ℕ, Bool, true, false, true≢false, not, is_some, if◌then◌else◌, List, [], ◌∷◌, ◌++◌, map, bytes_eq, Option, refl, sym, ap, ◌∙◌}
 use Rattle.std.proofs.lemmas.Bool.{and_parts, and_from}
 use Rattle.std.proofs.lemmas.List.Elements.{All-cons, All-head, All-nil, All-tail}
 use Rattle.std.proofs.lemmas.Slice.Eq.{bytes_eq-Decides}
@@ -14,21 +14,6 @@ use Rattle.elab_types.specs.Finding.{none_of, place_of}
 use Rattle.elab_types.specs.Records.{all_inserted, in_label_order, inserted, is_new_label}
 use Rattle.elab_types.proofs.FirstPlaces.{none_by_place}
 use Rattle.elab_types.proofs.Lists.{pairs_parts}
-
--- ---- insertion
--- the last field is inserted first
-pub inserted_last : (fields sorted : List Field) (field : Field) → all_inserted (fields ++ field ∷ []) sorted ≡ all_inserted fields (inserted field sorted)
-inserted_last [] sorted field = refl
-inserted_last (first ∷ fields) sorted field = ap (inserted first) (inserted_last fields sorted field)
-
--- a field put in its place
-pub one_inserted : (rest all sorted items given : List Field) (field : Field) (place : ℕ) (whole : List Field) → items ≡ insert sorted place field → given ≡ sorted → inserted field given ≡ insert given place field
-    → all ≡ rest ++ field ∷ [] → all_inserted all sorted ≡ whole → all_inserted rest items ≡ whole
-one_inserted rest all sorted items given field place whole i g n a w =
-    ap (all_inserted rest) (i ∙ ap (λ xs. insert xs place field) (sym g) ∙ sym n ∙ ap (inserted field) g)
-    ∙ sym (inserted_last rest sorted field)
-    ∙ ap (λ fields. all_inserted fields sorted) (sym a)
-    ∙ w
 
 -- ---- a label that is new
 pub is_new_by : (label : List ℕ) (done : List Field) (has : Bool) (place : Option ℕ) → has ≡ is_some place → place ≡ place_of (λ (field : Field). bytes_eq label field.label) done → is_new_label label done ≡ not has

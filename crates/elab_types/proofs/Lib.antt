@@ -2,7 +2,6 @@ pub mod Held
 pub mod FirstPlaces
 pub mod Lists
 pub mod Outcomes
-pub mod ArrowChains
 pub mod ManyFields
 pub mod Fields
 pub mod Made

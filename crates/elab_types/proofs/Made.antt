@@ -22,7 +22,7 @@ use Rattle.type_core.proofs.TypeTests.{arrow_is_type, is_over_arrow, is_over_con
 use Rattle.elab_env.proofs.Replacing.{over_substituted, parameters_below, type_substituted, variables_substituted}
 use Rattle.elab_types.specs.Soundness.{IsSoundFunction, IsSoundType}
 use Rattle.elab_types.proofs.Lists.{all_parts}
-use Rattle.elab_types.specs.Arrows.{arrows, arrows_from}
+use Rattle.type_core.specs.Arrows.{arrows, arrows_from}
 use Rattle.elab_types.specs.Records.{record_of}
 use Rattle.elab_types.proofs.Fields.{labels}
 

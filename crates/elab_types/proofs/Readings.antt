@@ -8,7 +8,7 @@ use Rattle.sml_lexer.specs.Refusals.{Tells as TellsText}
 use Rattle.sml_lexer.specs.Tokens.{tokens as tokens_of}
 use Rattle.ty_parser.specs.declared.tree.ParseRefusal.{ParseRefusal}
 use Rattle.ty_parser.specs.declared.tree.ParseRefusal.TheVariants as parsing
-use Rattle.ty_parser.specs.Phrases.{IsShallow, Refuses as RefusesSorts}
+use Rattle.ty_parser.specs.Phrases.{IsShallow, Tells as TellsSorts}
 use Rattle.ty_parser.specs.Sorts.{sorts_of}
 use Rattle.elab_types.specs.declared.fault.TextRefusal.{TextRefusal}
 use Rattle.elab_types.specs.Sources.{texts_of}
@@ -24,7 +24,7 @@ module _ {Why Tree Meaning : Type 0} (language : Language Why Tree Meaning) (byt
   lexed (lexical.LongName at) tells = by_tokens (lexical.LongName at) tells refl
   lexed lexical.NoMemory tells = tt
 
-  parsed : (tokens : List Token) (r : ParseRefusal) → tokens_of bytes tokens → RefusesSorts language.phrase (sorts_of bytes tokens) r → Refusing (flaw_of_text language.of_text (of_parser bytes tokens r))
+  parsed : (tokens : List Token) (r : ParseRefusal) → tokens_of bytes tokens → TellsSorts language.phrase (sorts_of bytes tokens) r → Refusing (flaw_of_text language.of_text (of_parser bytes tokens r))
   parsed tokens (parsing.Syntax k) are refused = by_phrase tokens (parsing.Syntax k) are refused refl
   parsed tokens (parsing.TooDeep k) are refused = by_phrase tokens (parsing.TooDeep k) are refused refl
   parsed tokens parsing.NoMemory are refused = tt
@@ -34,7 +34,7 @@ module _ {Why Tree Meaning : Type 0} (language : Language Why Tree Meaning) (byt
   no_tokens r text told tells is as_text = subst Refusing (sym (as_text ∙ ap (flaw_of_text language.of_text) is)) (lexed r tells)
 
   -- a text whose tokens are no phrase is refused so
-  pub no_phrase : (tokens : List Token) (r : ParseRefusal) (text : TextRefusal) (told : Option (Flaw Why)) → tokens_of bytes tokens → RefusesSorts language.phrase (sorts_of bytes tokens) r → text ≡ of_parser bytes tokens r
+  pub no_phrase : (tokens : List Token) (r : ParseRefusal) (text : TextRefusal) (told : Option (Flaw Why)) → tokens_of bytes tokens → TellsSorts language.phrase (sorts_of bytes tokens) r → text ≡ of_parser bytes tokens r
       → told ≡ flaw_of_text language.of_text text → Refusing told
   no_phrase tokens r text told are refused is as_text = subst Refusing (sym (as_text ∙ ap (flaw_of_text language.of_text) is)) (parsed tokens r are refused)
 

@@ -3,7 +3,6 @@ pub mod Finding
 pub mod Sources
 pub mod Places
 pub mod Views
-pub mod Arrows
 pub mod Records
 pub mod Spelling
 pub mod Soundness

@@ -1,3 +1,5 @@
 pub mod Types
 pub mod Closed
 pub mod Replaced
+pub mod Extended
+pub mod SchemeEqualities

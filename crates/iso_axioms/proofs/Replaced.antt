@@ -15,7 +15,7 @@ use Rattle.type_core.specs.Types.{IsType, is_type}
 use Rattle.type_core.proofs.Trees.{AtField, EachOf, induct_type, renamed_var, renamed_con, renamed_rec, renamed_tup, renamed_arrow, renamed_field, substituted_var, substituted_con, substituted_rec, substituted_tup, substituted_arrow, substituted_field}
 use Rattle.type_core.proofs.TypeTests.{is_type_var, is_type_con, is_type_rec}
 use Rattle.iso_axioms.specs.Axioms.{◌⇒◌, ◌⊗◌, unit, IsoAxiom, LinearAxiom, commute, associate, curry, times_unit, from_unit, nest, linear, distribute, to_unit}
-use Rattle.iso_axioms.specs.Theory.{Closure, of_axiom, same, back, chain, in_from, in_to, in_component}
+use Rattle.iso_axioms.specs.Theory.{Closure, of_axiom, reflexive, symmetric, transitive, in_from, in_to, in_component}
 use Rattle.iso_axioms.proofs.Types.{AreTypes, and_both, arrow_type, arrow_types, both, each_type, more_types, tuple_type, tuple_types}
 
 -- f puts types in place of variables, and changes nothing else
@@ -83,9 +83,9 @@ module _ (f : Ty → Ty) (in_field : Field → Field) (R : Replaces f in_field) 
   module _ (Axiom : Ty → Ty → Type 0) (axiom_kept : (a b : Ty) → Axiom a b → Axiom (f a) (f b)) where
     kept : {a b : Ty} → Closure Axiom a b → Closure Axiom (f a) (f b)
     kept (of_axiom {a} {b} p q e) = of_axiom (keeps_types a p) (keeps_types b q) (axiom_kept a b e)
-    kept (same a p) = same (f a) (keeps_types a p)
-    kept (back e) = back (kept e)
-    kept (chain d e) = chain (kept d) (kept e)
+    kept (reflexive a p) = reflexive (f a) (keeps_types a p)
+    kept (symmetric e) = symmetric (kept e)
+    kept (transitive d e) = transitive (kept d) (kept e)
     kept (in_from {a} {b} c p e) = subst₂ (Closure Axiom) (sym (R.arrow a c)) (sym (R.arrow b c)) (in_from (f c) (keeps_types c p) (kept e))
     kept (in_to {a} {b} c p e) = subst₂ (Closure Axiom) (sym (R.arrow c a)) (sym (R.arrow c b)) (in_to (f c) (keeps_types c p) (kept e))
     kept (in_component {a} {b} before after p e) = subst₂ (Closure Axiom) (sym (tuple before after a)) (sym (tuple before after b))

@@ -10,9 +10,9 @@ use Rattle.iso_axioms.specs.Axioms.{◌⇒◌, IsoAxiom, LinearAxiom}
 -- (each step is between types, as its premises say; so no derivation passes through a tuple of one component)
 pub data Closure (Axiom : Ty → Ty → Type 0) : Ty → Ty → Type 0 where
   of_axiom : {a b : Ty} → IsType a → IsType b → Axiom a b → Closure Axiom a b
-  same : (a : Ty) → IsType a → Closure Axiom a a
-  back : {a b : Ty} → Closure Axiom a b → Closure Axiom b a
-  chain : {a b c : Ty} → Closure Axiom a b → Closure Axiom b c → Closure Axiom a c
+  reflexive : (a : Ty) → IsType a → Closure Axiom a a
+  symmetric : {a b : Ty} → Closure Axiom a b → Closure Axiom b a
+  transitive : {a b c : Ty} → Closure Axiom a b → Closure Axiom b c → Closure Axiom a c
   in_from : {a b : Ty} (c : Ty) → IsType c → Closure Axiom a b → Closure Axiom (a ⇒ c) (b ⇒ c)
   in_to : {a b : Ty} (c : Ty) → IsType c → Closure Axiom a b → Closure Axiom (c ⇒ a) (c ⇒ b)
   in_component : {a b : Ty} (before after : List Ty) → IsType (ty.Tup (before ++ a ∷ after)) → Closure Axiom a b → Closure Axiom (ty.Tup (before ++ a ∷ after)) (ty.Tup (before ++ b ∷ after))

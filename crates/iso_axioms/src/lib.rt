@@ -12,4 +12,7 @@ pub use laws::{
     linear_is_isomorphic, renaming_keeps_theories, substitution_keeps_theories,
     theories_are_closed, theories_are_equivalences, theories_relate_types,
 };
-pub use scheme_laws::{identity_is_equality_up_to_names, scheme_equalities_are_nested};
+pub use scheme_laws::{
+    identity_is_equality_up_to_names, scheme_equalities_are_equivalences,
+    scheme_equalities_are_nested,
+};

@@ -14,7 +14,7 @@ use Rattle.type_core.specs.Renaming.{Renaming}
 use Rattle.type_core.specs.Schemes.{closed, numbered_among}
 use Rattle.type_core.specs.Size.{size_of}
 use Rattle.type_core.specs.ValidLibrary.{IsValidLibrary}
-use Rattle.type_core.specs.Variables.{by_first_occurrence, variables}
+use Rattle.type_core.specs.Variables.{by_first_occurrence}
 use Rattle.type_core.proofs.Closed.{closed_is_scheme}
 use Rattle.type_core.proofs.Renamed.{variables_bounded}
 use Rattle.elab_types.specs.Sources.{texts_of}
@@ -25,7 +25,7 @@ use Rattle.query_parser.specs.Queries.{IsQuery}
 use Rattle.query_parser.specs.Types.{typed}
 use Rattle.query_parser.proofs.Typed.{IsTyped, typed_sound}
 
-pub few_variables : (t : Ty) → size_of t ≤ 200 → length (variables t) < 2 ^ 32
+pub few_variables : (t : Ty) → size_of t ≤ 200 → length (by_first_occurrence t) < 2 ^ 32
 few_variables t small = omega (arith, variables_bounded t, small)
 
 -- ---- the normal form

@@ -11,7 +11,7 @@ use Rattle.type_core.specs.declared.ty.Field.{Field}
 use Rattle.type_core.specs.declared.ty.Ty.{Ty}
 use Rattle.type_core.specs.declared.ty.Ty.TheVariants as ty
 use Rattle.type_core.specs.Size.{size_of}
-use Rattle.elab_types.specs.Arrows.{arrows}
+use Rattle.type_core.specs.Arrows.{arrows}
 use Rattle.elab_types.specs.Outcome.{Outcome, and_then, checked, failed}
 use Rattle.elab_types.specs.Records.{in_label_order, is_new_label, record_of}
 use Rattle.elab_types.specs.Sources.{text_at}

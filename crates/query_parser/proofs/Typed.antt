@@ -21,7 +21,7 @@ use Rattle.type_core.specs.TypeFunctions.{applied}
 use Rattle.type_core.specs.Types.{takes}
 use Rattle.type_core.specs.ValidLibrary.{IsLabel, IsValidLibrary, own_names}
 use Rattle.type_core.proofs.Trees.{size_var}
-use Rattle.elab_types.specs.Arrows.{arrows}
+use Rattle.type_core.specs.Arrows.{arrows}
 use Rattle.elab_types.specs.Records.{in_label_order, is_new_label, record_of}
 use Rattle.elab_types.specs.Soundness.{IsSoundFunction}
 use Rattle.elab_types.specs.Sources.{is_qualified, text_at, variable}

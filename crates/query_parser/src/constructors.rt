@@ -10,7 +10,7 @@ ghost use Rattle.type_core.specs.InitialNames.{initial_names};
 use crate::place::Place;
 use crate::refusal::{QueryWhy, Stop};
 use elab_types::{as_number, is_qualified};
-use sig_base::{List, NoMemory};
+use sig_base::{List, NoMemory, Row};
 use std::alloc::Global;
 use type_core::{NameId, Ty, Tycon, TypeName, apply_fn};
 
@@ -81,15 +81,17 @@ fn tycon_of<'a>(tycons: &'a [Tycon], path: &[u8]) -> Option<&'a Tycon>
 }
 
 // The name of this number, applied to arguments.
-fn of_name(n: usize, arguments: List<Ty>) -> Result<Ty, NoMemory>
+fn of_name(alloc: Global, n: usize, arguments: List<Ty>) -> Result<Ty, NoMemory>
     ensures value { IfOk result (λ t. t ≡ spec.of_name n arguments) }
 {
     let n = as_number(n)?;
+    let arguments = Row::new(alloc, arguments)?;
     Ok(Ty::Con(NameId(n), arguments))
 }
 
 // An initial name, applied.
 fn initial_applied(
+    alloc: Global,
     initial: &[TypeName],
     token: u32,
     id: &[u8],
@@ -104,7 +106,7 @@ fn initial_applied(
             if initial[n].arity as usize != arguments.len() {
                 return Err(Stop::Failed(QueryWhy::WrongArity, token));
             }
-            let t = of_name(n, arguments)?;
+            let t = of_name(alloc, n, arguments)?;
             Ok(t)
         }
     }
@@ -112,6 +114,7 @@ fn initial_applied(
 
 // An unqualified constructor, applied: `unit` or an initial name.
 fn unqualified_applied(
+    alloc: Global,
     initial: &[TypeName],
     token: u32,
     id: &[u8],
@@ -121,10 +124,10 @@ fn unqualified_applied(
     ensures outcome { Gives (spec.unqualified_applied token id.now arguments) result }
 {
     if id != b"unit".as_slice() {
-        return initial_applied(initial, token, id, arguments);
+        return initial_applied(alloc, initial, token, id, arguments);
     }
     if arguments.is_empty() {
-        Ok(Ty::Tup(arguments))
+        Ok(Ty::Tup(Row::empty()))
     } else {
         Err(Stop::Failed(QueryWhy::WrongArity, token))
     }
@@ -132,6 +135,7 @@ fn unqualified_applied(
 
 // An external name of this path, applied.
 fn external_applied(
+    alloc: Global,
     names: &[TypeName],
     token: u32,
     path: &[u8],
@@ -141,7 +145,7 @@ fn external_applied(
 {
     match external_of(names, path, arguments.len()) {
         Some(n) => {
-            let t = of_name(n, arguments)?;
+            let t = of_name(alloc, n, arguments)?;
             Ok(t)
         }
         None => {
@@ -165,7 +169,13 @@ fn qualified_applied(
     ensures outcome { Gives (spec.qualified_applied token path.now place.now.library.now.names (the_tycon path.now place.now.library.now.tycons) arguments) result }
 {
     match tycon_of(place.library.tycons.as_slice(), path) {
-        None => external_applied(place.library.names.as_slice(), token, path, arguments),
+        None => external_applied(
+            alloc,
+            place.library.names.as_slice(),
+            token,
+            path,
+            arguments,
+        ),
         Some(tycon) => {
             if arguments.len() != tycon.fun.arity as usize {
                 return Err(Stop::Failed(QueryWhy::WrongArity, token));
@@ -189,6 +199,6 @@ pub fn constructor_applied(
     if is_qualified(path) {
         qualified_applied(alloc, place, token, path, arguments)
     } else {
-        unqualified_applied(place.initial, token, path, arguments)
+        unqualified_applied(alloc, place.initial, token, path, arguments)
     }
 }

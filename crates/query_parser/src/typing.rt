@@ -1,17 +1,18 @@
 // From the type expression of a query to its type (the Definition of Standard ML, rules 44 to 49).
 ghost use Rattle.std.specs.Prelude.{◌≡◌, ◌∷◌, [], ◌++◌, nat_le, map, IfOk};
-ghost use Rattle.elab_types.specs.Arrows.{arrows as chain};
+ghost use Rattle.type_core.specs.Arrows.{arrows as chain};
 ghost use Rattle.elab_types.specs.Records.{in_label_order, record_of};
 ghost use Rattle.query_parser.specs.Types as spec;
 ghost use Rattle.query_parser.specs.Types.{all_typed, field_typed, fields_typed, typed};
 ghost use Rattle.query_parser.specs.Views.{Gives, place_of};
 ghost use Rattle.type_core.specs.Size.{size_of};
+ghost use Rattle.type_core.specs.declared.ty.Ty.TheVariants as ty;
 
 use crate::constructors::constructor_applied;
 use crate::place::Place;
 use crate::refusal::{QueryWhy, Stop};
 use elab_types::{Places, arrows_size, records_have_nodes};
-use sig_base::{List, NoMemory, Text};
+use sig_base::{List, NoMemory, Row, Text};
 use std::alloc::Global;
 use ty_parser::{FieldExp, TyExp};
 use type_core::{Field, Ty, size};
@@ -35,6 +36,14 @@ fn limited(t: Ty) -> Result<Ty, Stop>
     } else {
         Err(Stop::Failed(QueryWhy::TooLarge, 0))
     }
+}
+
+// The tuple of types.
+fn tuple(alloc: Global, parts: List<Ty>) -> Result<Ty, Stop>
+    ensures outcome { Gives (spec.limited (ty.Tup parts)) result }
+{
+    let parts = Row::new(alloc, parts)?;
+    limited(Ty::Tup(parts))
 }
 
 // Whether the types with arrows between them have at most 200 nodes.
@@ -101,7 +110,7 @@ fn constructed_all(
     ensures outcome { Gives (spec.constructed_all (place_of place.now) arguments constructors.now) result }
 {
     let [first, others @ ..] = constructors else {
-        return limited(Ty::Tup(arguments));
+        return tuple(alloc, arguments);
     };
     let mut t = constructed(alloc, place, *first, arguments)?;
     for token in others {
@@ -124,7 +133,7 @@ pub fn type_of(alloc: Global, e: &TyExp, place: &Place<'_>) -> Result<Ty, Stop>
         }
         TyExp::Tuple(parts) => {
             let parts = all_types(alloc, parts.as_slice(), place)?;
-            limited(Ty::Tup(parts))
+            tuple(alloc, parts)
         }
         TyExp::Arrows(sides) => {
             let sides = all_types(alloc, sides.as_slice(), place)?;

@@ -1,5 +1,11 @@
+pub mod Distinct
 pub mod Counts
-pub mod Fronts
+pub mod FileCounts
+pub mod DottedParts
+pub mod Given
+pub mod LongIdentifiers
 pub mod Places
 pub mod Refused
+pub mod Stacks
 pub mod Written
+pub mod WordBytes

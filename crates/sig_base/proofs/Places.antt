@@ -1,129 +1,169 @@
--- Where a path's file stands among files in memory, and what a failure there counts.
-use Rattle.std.proofs.Common.{◌≡◌, ℕ, ◌+◌, true, false, cond, List, [], ◌∷◌, ◌++◌, length, refl, sym, ap, ◌∙◌, inl, inr, arith, add-one}
-use Rattle.std.specs.Prelude.{◌==◌, ◌⊎◌, Option, Some, None, Result, Ok, Err, OnOk, OnErr, map, bytes_eq, unwrap_or, slice_get}
-use Rattle.std.specs.Option.{option_map}
+-- Where a path's file stands among files in memory, and what the map is when its bytes change or a file is added.
+use Rattle.std.proofs.Common.{◌≡◌, ℕ, zero, suc, ◌+◌, ◌-◌, ◌<◌, ◌≤◌, Bool, true, false, cond, List, [], ◌∷◌, ◌++◌, length, get_or, set, refl, sym, ap, ◌∙◌, arith}
+use Rattle.std.specs.Prelude.{Option, Some, None, map, bytes_eq}
 use Rattle.std.specs.List.{position_from}
 use Rattle.std.specs.Ordering.{nat_cmp}
 use Rattle.std.specs.Cmp.Lexicographic.{slice_cmp}
-use Rattle.std.specs.FinMap.{find, get, get-from_entries}
-use Rattle.std.proofs.lemmas.Bool.Decides.{nat_tests}
+use Rattle.std.specs.FinMap.{find, from_entries_push, get, get-from_entries, get-insert, insert, nat_cmp-IsAntisymmetric, same_map, slice_cmp-IsAntisymmetric, IsAntisymmetric}
 use Rattle.std.proofs.lemmas.Cmp.{nat_list_cmp_total}
+use Rattle.std.proofs.lemmas.List.{map-append}
 use Rattle.std.proofs.lemmas.Map.Text.{is_eq-slice_cmp}
 use Rattle.std.proofs.lemmas.Slice.Eq.{bytes_eq-Decides}
-use Rattle.sig_base.specs.Faults.{NoneFell}
-use Rattle.sig_base.specs.MemFiles.{RaisedAt, SharesCount, counts_in, entry, map_of, place_in, times_in}
+use Rattle.sig_base.specs.MemFiles.{entry, map_of, place_in, with_bytes}
 use Rattle.sig_base.specs.declared.mem_file.MemFile.{MemFile}
 
--- the place is that of the first file that a search meets
-place-position_from : (path : List ℕ) (start end : ℕ) (files : List MemFile) → end ≡ start + length files
-    → unwrap_or (position_from (λ file. bytes_eq path file.path) start files) end ≡ start + place_in files path
-place-position_from path start end [] is = is
-place-position_from path start end (file ∷ files) is =
-    elim (bytes_eq path file.path) as (λ here. unwrap_or (cond here (Some start) (position_from (λ file. bytes_eq path file.path) (start + 1) files)) end ≡ start + cond here 0 (place_in files path + 1)) [
-      | true ↦ omega arith
-      | false ↦ place-position_from path (start + 1) end files (omega arith) ∙ omega arith
-    ]
+-- the file at this place is the first of this path
+abbrev pub IsFirst : List MemFile → ℕ → List ℕ → Type 0
+IsFirst [] place path = ⊥
+IsFirst (file ∷ files) zero path = path ≡ file.path
+IsFirst (file ∷ files) (suc place) path = (bytes_eq path file.path ≡ false) × IsFirst files place path
 
-pub place-first : (files : List MemFile) (path : List ℕ) → unwrap_or (position_from (λ file. bytes_eq path file.path) 0 files) (length files) ≡ place_in files path
-place-first files path = place-position_from path 0 (length files) files (omega arith) ∙ omega arith
-
-find-at : (path : List ℕ) (files : List MemFile) → find (slice_cmp nat_cmp) path (map entry files) ≡ option_map (λ file. file.bytes) (slice_get files (place_in files path))
-find-at path [] = refl
-find-at path (file ∷ files) =
-    rw (is_eq-slice_cmp path file.path)
-    (elim (bytes_eq path file.path) as (λ here. cond here (Some file.bytes) (find (slice_cmp nat_cmp) path (map entry files)) ≡ option_map (λ file. file.bytes) (slice_get (file ∷ files) (cond here 0 (place_in files path + 1)))) [
-      | true ↦ refl
-      | false ↦ rw add-one (find-at path files)
-    ])
-
--- the map has the bytes of the file at the path's place
-pub get-at : (path : List ℕ) (files : List MemFile) → get (map_of files) path ≡ option_map (λ file. file.bytes) (slice_get files (place_in files path))
-get-at path files = get-from_entries nat_list_cmp_total (map entry files) path ∙ find-at path files
-
-place-none : (path : List ℕ) (files : List MemFile) → option_map (λ file. file.bytes) (slice_get files (place_in files path)) ≡ None → place_in files path ≡ length files
-place-none path [] none = refl
-place-none path (file ∷ files) none =
-    elim (bytes_eq path file.path) as (λ here. option_map (λ file. file.bytes) (slice_get (file ∷ files) (cond here 0 (place_in files path + 1))) ≡ None → cond here 0 (place_in files path + 1) ≡ length (file ∷ files)) [
-      | true ↦ λ none. cc
-      | false ↦ λ none. let rest = place-none path files (rw add-one at none) in omega arith
-    ] none
-
-none-past : (path : List ℕ) (files : List MemFile) → place_in files path ≡ length files → option_map (λ file. file.bytes) (slice_get files (place_in files path)) ≡ None
-none-past path [] past = refl
-none-past path (file ∷ files) past =
-    elim (bytes_eq path file.path) as (λ here. cond here 0 (place_in files path + 1) ≡ length (file ∷ files) → option_map (λ file. file.bytes) (slice_get (file ∷ files) (cond here 0 (place_in files path + 1))) ≡ None) [
-      | true ↦ λ past. absurd (omega arith)
-      | false ↦ λ past. rw add-one (none-past path files (omega arith))
-    ] past
+-- the place of the first file of a path, where the files begin at a number
+abbrev place_from : ℕ → List MemFile → List ℕ → Option ℕ
+place_from start files path = position_from (λ file. bytes_eq path file.path) start files
 
 same_text : (text other : List ℕ) → bytes_eq text other ≡ true → text ≡ other
 same_text text other same = (bytes_eq-Decides text other).0 same
 
--- two paths with the place of one file are the same
-same_path : (path other : List ℕ) (files : List MemFile) → place_in files path ≡ place_in files other → ¬ (place_in files path ≡ length files) → path ≡ other
-same_path path other [] same there = absurd (there refl)
-same_path path other (file ∷ files) same there =
-    elim (bytes_eq path file.path) as (λ here. bytes_eq path file.path ≡ here → cond here 0 (place_in files path + 1) ≡ cond (bytes_eq other file.path) 0 (place_in files other + 1)
-    → ¬ (cond here 0 (place_in files path + 1) ≡ length (file ∷ files)) → path ≡ other) [
-      | true ↦ λ here same there. elim (bytes_eq other file.path) as (λ too. bytes_eq other file.path ≡ too → 0 ≡ cond too 0 (place_in files other + 1) → path ≡ other) [
-        | true ↦ λ too _. same_text path file.path here ∙ sym (same_text other file.path too)
-        | false ↦ λ _ same. absurd (omega arith)
-      ] refl same
-      | false ↦ λ _ same there. elim (bytes_eq other file.path) as (λ too. place_in files path + 1 ≡ cond too 0 (place_in files other + 1) → path ≡ other) [
-        | true ↦ λ same. absurd (omega arith)
-        | false ↦ λ same. same_path path other files (omega arith) (λ past. there (omega arith))
-      ] same
-    ] refl same there
+not_before : (path : List ℕ) (start place : ℕ) (files : List MemFile) → place_from start files path ≡ Some place → start ≤ place
+not_before path start place [] found = cc
+not_before path start place (file ∷ files) found =
+    elim (bytes_eq path file.path) as (λ here. cond here (Some start) (place_from (start + 1) files path) ≡ Some place → start ≤ place) [
+      | true ↦ λ found. let same : start ≡ place = cc in omega arith
+      | false ↦ λ found. let later = not_before path (start + 1) place files found in omega (arith, later)
+    ] found
 
-times_in-append : (failed : List ℕ) (place number : ℕ) → times_in (failed ++ place ∷ []) number ≡ times_in failed number + cond (place == number) 1 0
-times_in-append [] place number = omega arith
-times_in-append (first ∷ failed) place number = let rest = times_in-append failed place number in omega arith
+first_from : (path : List ℕ) (start place : ℕ) (files : List MemFile) → place_from start files path ≡ Some place → IsFirst files (place - start) path
+first_from path start place [] found = cc
+first_from path start place (file ∷ files) found =
+    elim (bytes_eq path file.path) as (λ here. bytes_eq path file.path ≡ here → cond here (Some start) (place_from (start + 1) files path) ≡ Some place → IsFirst (file ∷ files) (place - start) path) [
+      | true ↦ λ here found. let same : start ≡ place = cc in let is : place - start ≡ zero = omega arith in rw is (same_text path file.path here)
+      | false ↦ λ apart found.
+          let later = not_before path (start + 1) place files found in
+          let is : place - start ≡ suc (place - (start + 1)) = omega (arith, later) in
+          rw is (apart, first_from path (start + 1) place files found)
+    ] refl found
 
-counted : (place number : ℕ) → place ≡ number → ◌≡◌ {A = ℕ} (cond (place == number) 1 0) 1
-counted place number same = grind (arith, nat_tests)
+-- a place that is found is that of the first file
+pub first_found : (path : List ℕ) (place : ℕ) (files : List MemFile) → place_in files path ≡ Some place → IsFirst files place path
+first_found path place files found = let is : place - 0 ≡ place = omega arith in rw is at (first_from path 0 place files found)
 
-not_counted : (place number : ℕ) → ¬ (place ≡ number) → ◌≡◌ {A = ℕ} (cond (place == number) 1 0) 0
-not_counted place number apart = grind (arith, nat_tests)
+pub first_within : (files : List MemFile) (place : ℕ) (path : List ℕ) → IsFirst files place path → place < length files
+first_within [] place path is = absurd is
+first_within (file ∷ files) zero path is = omega arith
+first_within (file ∷ files) (suc place) path is = omega (arith, first_within files place path is.1)
 
-shared : (files : List MemFile) (path other : List ℕ) → SharesCount (map_of files) path other → place_in files path ≡ place_in files other
-shared files path other (inl same) = ap (place_in files) same
-shared files path other (inr none) = place-none path files (sym (get-at path files) ∙ none.0) ∙ sym (place-none other files (sym (get-at other files) ∙ none.1))
+-- of one place there is one path
+pub first_path : (files : List MemFile) (place : ℕ) (path other : List ℕ) → IsFirst files place path → IsFirst files place other → path ≡ other
+first_path [] place path other is too = absurd is
+first_path (file ∷ files) zero path other is too = is ∙ sym too
+first_path (file ∷ files) (suc place) path other is too = first_path files place path other is.1 too.1
 
--- the file at the path's place is what the map has there
-pub get-found : (files : List MemFile) (path : List ℕ) (place : ℕ) (found : Option MemFile) → place ≡ place_in files path → found ≡ slice_get files place → get (map_of files) path ≡ option_map (λ file. file.bytes) found
-get-found files path place found is at = get-at path files ∙ sym (ap (option_map (λ file. file.bytes)) (at ∙ ap (slice_get files) is))
+find-first : (files : List MemFile) (place : ℕ) (path : List ℕ) (default : MemFile) → IsFirst files place path
+    → find (slice_cmp nat_cmp) path (map entry files) ≡ Some (get_or files place default).bytes
+find-first [] place path default is = absurd is
+find-first (file ∷ files) zero path default is = rw (is_eq-slice_cmp path file.path, (bytes_eq-Decides path file.path).1 is) refl
+find-first (file ∷ files) (suc place) path default is = rw (is_eq-slice_cmp path file.path, is.0) (find-first files place path default is.1)
 
-same_or_not : (n m : ℕ) → (n ≡ m) ⊎ (¬ (n ≡ m))
-same_or_not n m =
-    elim (n == m) as (λ test. (n == m) ≡ test → (n ≡ m) ⊎ (¬ (n ≡ m))) [
-      | true ↦ λ is. inl (grind (arith, nat_tests))
-      | false ↦ λ is. inr (λ same. grind (arith, nat_tests))
+find-none : (path : List ℕ) (start : ℕ) (files : List MemFile) → place_from start files path ≡ None → find (slice_cmp nat_cmp) path (map entry files) ≡ None
+find-none path start [] none = refl
+find-none path start (file ∷ files) none =
+    rw (is_eq-slice_cmp path file.path)
+    (elim (bytes_eq path file.path) as (λ here. cond here (Some start) (place_from (start + 1) files path) ≡ None → cond here (Some file.bytes) (find (slice_cmp nat_cmp) path (map entry files)) ≡ None) [
+      | true ↦ λ none. cc
+      | false ↦ λ none. find-none path (start + 1) files none
+    ] none)
+
+-- the map has the bytes of the file at the path's place
+pub get-found : (files : List MemFile) (place : ℕ) (path : List ℕ) (default : MemFile) → place_in files path ≡ Some place → get (map_of files) path ≡ Some (get_or files place default).bytes
+get-found files place path default found = get-from_entries nat_list_cmp_total (map entry files) path ∙ find-first files place path default (first_found path place files found)
+
+pub get-none : (files : List MemFile) (path : List ℕ) → place_in files path ≡ None → get (map_of files) path ≡ None
+get-none files path none = get-from_entries nat_list_cmp_total (map entry files) path ∙ find-none path 0 files none
+
+found_not_none : (files : List MemFile) (path : List ℕ) (place : ℕ) → place_in files path ≡ Some place → get (map_of files) path ≡ None → ⊥
+found_not_none [] path place found none = cc
+found_not_none (file ∷ files) path place found none = let there = get-found (file ∷ files) place path file found in cc
+
+-- a path that the map hasn't has no place
+pub place-none : (files : List MemFile) (path : List ℕ) → get (map_of files) path ≡ None → place_in files path ≡ None
+place-none files path none =
+    elim (place_in files path) as (λ place. place_in files path ≡ place → place ≡ None) [
+      | None ↦ λ _. refl
+      | Some place ↦ λ found. absurd (found_not_none files path place found none)
     ] refl
 
-shares : (files : List MemFile) (path other : List ℕ) → place_in files path ≡ place_in files other → SharesCount (map_of files) path other
-shares files path other same =
-    elim (same_or_not (place_in files path) (length files)) [
-      | inl past ↦ inr (get-at path files ∙ none-past path files past, get-at other files ∙ none-past other files (sym same ∙ past))
-      | inr there ↦ inl (same_path path other files same there)
-    ]
+-- other bytes leave every path at its place
+pub place-with_bytes : (path bytes : List ℕ) (start place : ℕ) (files : List MemFile) → place_from start (with_bytes files place bytes) path ≡ place_from start files path
+place-with_bytes path bytes start place [] = refl
+place-with_bytes path bytes start zero (file ∷ files) = refl
+place-with_bytes path bytes start (suc place) (file ∷ files) = ap (cond (bytes_eq path file.path) (Some start)) (place-with_bytes path bytes (start + 1) place files)
 
-raised : (files : List MemFile) (path failed : List ℕ) (place : ℕ) → place ≡ place_in files path
-    → RaisedAt (map_of files) path (counts_in files failed) (counts_in files (failed ++ place ∷ []))
-raised files path failed place is = record {
-  own = λ other same. times_in-append failed place (place_in files other)
-      ∙ ap (λ n. times_in failed (place_in files other) + n) (counted place (place_in files other) (is ∙ shared files path other same));
-  others = λ other apart. times_in-append failed place (place_in files other)
-      ∙ ap (λ n. times_in failed (place_in files other) + n) (not_counted place (place_in files other) (λ same. apart (shares files path other (sym is ∙ same)))) ∙ omega arith;
-}
+-- to set the file of a place to itself with other bytes is that
+pub set-with_bytes : (files : List MemFile) (place : ℕ) (file : MemFile) (bytes : List ℕ) → place < length files → file ≡ get_or files place file
+    → set files place (record { path = file.path; bytes = bytes }) ≡ with_bytes files place bytes
+set-with_bytes [] place file bytes within is = absurd (omega (arith, within))
+set-with_bytes (first ∷ files) zero file bytes within is = ap (λ path. record { path = path; bytes = bytes } ∷ files) (ap (λ f. f.path) is)
+set-with_bytes (first ∷ files) (suc place) file bytes within is = ap (λ rest. first ∷ rest) (set-with_bytes files place file bytes (omega (arith, within)) is)
 
--- where a failure was noted its path's count rose by one, and no other
-pub raised-noted : {E : Type 0} (files : List MemFile) (path failed now : List ℕ) (place : ℕ) (result : Result Unit E) → place ≡ place_in files path → OnOk result (now ≡ failed ++ place ∷ [])
-    → OnOk result (RaisedAt (map_of files) path (counts_in files failed) (counts_in files now))
-raised-noted files path failed now place (Ok done) is noted = rw noted (raised files path failed place is)
-raised-noted files path failed now place (Err refused) is noted = tt
+-- the first of two equal keys wins
+shadowed : (here : Bool) (x y z : Option (List ℕ)) → cond here x z ≡ cond here x (cond here y z)
+shadowed true x y z = refl
+shadowed false x y z = refl
 
--- noted or not, no count fell
-pub none_fell-noted : {E : Type 0} (files : List MemFile) (failed now : List ℕ) (place : ℕ) (result : Result Unit E) → OnOk result (now ≡ failed ++ place ∷ []) → OnErr result (now ≡ failed)
-    → NoneFell (counts_in files failed) (counts_in files now)
-none_fell-noted files failed now place (Ok done) noted kept path = rw noted (omega (arith, times_in-append failed place (place_in files path)))
-none_fell-noted files failed now place (Err refused) noted kept path = rw kept (omega arith)
+-- two keys that differ don't both fit
+swapped : (here there : Bool) (x y z : Option (List ℕ)) → (here ≡ true → there ≡ true → ⊥) → cond here x (cond there y z) ≡ cond there y (cond here x z)
+swapped true true x y z apart = absurd (apart refl refl)
+swapped true false x y z apart = refl
+swapped false there x y z apart = refl
+
+not_both : (path other key : List ℕ) → bytes_eq path other ≡ false → bytes_eq key other ≡ true → bytes_eq key path ≡ true → ⊥
+not_both path other key apart there here =
+    let same : path ≡ other = sym (same_text key path here) ∙ same_text key other there in
+    let is = (bytes_eq-Decides path other).1 same in
+    cc
+
+find-with_bytes : (files : List MemFile) (place : ℕ) (path bytes key : List ℕ) → IsFirst files place path
+    → find (slice_cmp nat_cmp) key (map entry (with_bytes files place bytes)) ≡ cond (bytes_eq key path) (Some bytes) (find (slice_cmp nat_cmp) key (map entry files))
+find-with_bytes [] place path bytes key is = absurd is
+find-with_bytes (file ∷ files) zero path bytes key is =
+    rw (is_eq-slice_cmp key file.path, is) (shadowed (bytes_eq key file.path) (Some bytes) (Some file.bytes) (find (slice_cmp nat_cmp) key (map entry files)))
+find-with_bytes (file ∷ files) (suc place) path bytes key is =
+    rw (is_eq-slice_cmp key file.path, find-with_bytes files place path bytes key is.1)
+    (swapped (bytes_eq key file.path) (bytes_eq key path) (Some file.bytes) (Some bytes) (find (slice_cmp nat_cmp) key (map entry files)) (not_both path file.path key is.0))
+
+antisymmetric : IsAntisymmetric (slice_cmp nat_cmp)
+antisymmetric = slice_cmp-IsAntisymmetric nat_cmp-IsAntisymmetric
+
+-- other bytes for the file of a path
+pub map-with_bytes : (files : List MemFile) (place : ℕ) (path bytes : List ℕ) → place_in files path ≡ Some place → map_of (with_bytes files place bytes) ≡ insert (map_of files) path bytes
+map-with_bytes files place path bytes found =
+    same_map nat_list_cmp_total antisymmetric _ _ (λ key.
+    get-from_entries nat_list_cmp_total (map entry (with_bytes files place bytes)) key
+    ∙ find-with_bytes files place path bytes key (first_found path place files found)
+    ∙ sym (get-insert nat_list_cmp_total (map_of files) path bytes key
+    ∙ ap (λ here. cond here (Some bytes) (get (map_of files) key)) (is_eq-slice_cmp key path)
+    ∙ ap (cond (bytes_eq key path) (Some bytes)) (get-from_entries nat_list_cmp_total (map entry files) key)))
+
+-- one more file, of a path that had none
+pub map-pushed : (files : List MemFile) (made : MemFile) (path : List ℕ) → place_in files path ≡ None → made.path ≡ path → map_of (files ++ made ∷ []) ≡ insert (map_of files) path made.bytes
+map-pushed files made path none is =
+    rw (map-append, is) (from_entries_push nat_list_cmp_total antisymmetric (map entry files) path made.bytes (find-none path 0 files none))
+
+-- one more file leaves the paths of the others at their places
+pub place-pushed-found : (path : List ℕ) (start place : ℕ) (files : List MemFile) (made : MemFile) → place_from start files path ≡ Some place → place_from start (files ++ made ∷ []) path ≡ Some place
+place-pushed-found path start place [] made found = cc
+place-pushed-found path start place (file ∷ files) made found =
+    elim (bytes_eq path file.path) as (λ here. cond here (Some start) (place_from (start + 1) files path) ≡ Some place → cond here (Some start) (place_from (start + 1) (files ++ made ∷ []) path) ≡ Some place) [
+      | true ↦ λ found. found
+      | false ↦ λ found. place-pushed-found path (start + 1) place files made found
+    ] found
+
+pub place-pushed-none : (path : List ℕ) (start : ℕ) (files : List MemFile) (made : MemFile) → place_from start files path ≡ None
+    → place_from start (files ++ made ∷ []) path ≡ cond (bytes_eq path made.path) (Some (start + length files)) None
+place-pushed-none path start [] made none = let is : start + 0 ≡ start = omega arith in rw is refl
+place-pushed-none path start (file ∷ files) made none =
+    elim (bytes_eq path file.path) as (λ here. cond here (Some start) (place_from (start + 1) files path) ≡ None → cond here (Some start) (place_from (start + 1) (files ++ made ∷ []) path) ≡ cond (bytes_eq path made.path) (Some (start + length (file ∷ files))) None) [
+      | true ↦ λ none. cc
+      | false ↦ λ none. let is : start + 1 + length files ≡ start + length (file ∷ files) = omega arith in rw (← is) (place-pushed-none path (start + 1) files made none)
+    ] none

@@ -1,24 +1,40 @@
 -- What the words of Standard ML are: the Definition of Standard ML, sections 2.1, 2.4 and 3.1.
-use Rattle.std.specs.Prelude.{◌≡◌, ℕ, ◌≤◌, ◌⊎◌, List, [], ◌∷◌, codes}
-use Rattle.std.specs.List.{All, Contains}
+use Rattle.std.specs.Prelude.{◌≡◌, ℕ, ◌⊎◌, ◌&&◌, ◌||◌, Bool, false, not, IsTrue, List, [], ◌∷◌, codes, nat_eq, nat_le}
+use Rattle.std.specs.List.{All, list_all, list_any}
 use Rattle.sig_base.specs.declared.word.Word.{Word}
 use Rattle.sig_base.specs.declared.word.Word.TheVariants as word
 
--- a letter of ASCII
+-- whether the byte is a letter of ASCII
+abbrev pub is_letter : ℕ → Bool
+is_letter b = (nat_le 65 b && nat_le b 90) || (nat_le 97 b && nat_le b 122)
+
+-- whether the byte is a digit
+abbrev pub is_digit : ℕ → Bool
+is_digit b = nat_le 48 b && nat_le b 57
+
+-- whether the byte is a letter, a digit, a prime or an underbar
+abbrev pub is_alphanumeric_byte : ℕ → Bool
+is_alphanumeric_byte b = is_letter b || is_digit b || nat_eq b 39 || nat_eq b 95
+
+-- whether the byte is one of the symbols of which symbolic words are made
+unfoldable pub is_symbolic_byte : ℕ → Bool
+is_symbolic_byte b = list_any (λ c. nat_eq c b) (codes "!%&$#+-/:<=>?@\\~`^|*")
+
+-- a letter
 abbrev pub IsLetter : ℕ → Type 0
-IsLetter b = ((65 ≤ b) × (b ≤ 90)) ⊎ ((97 ≤ b) × (b ≤ 122))
+IsLetter b = IsTrue (is_letter b)
 
 -- a digit
 abbrev pub IsDigit : ℕ → Type 0
-IsDigit b = (48 ≤ b) × (b ≤ 57)
+IsDigit b = IsTrue (is_digit b)
 
 -- a letter, a digit, a prime or an underbar
 abbrev pub IsAlphanumericByte : ℕ → Type 0
-IsAlphanumericByte b = IsLetter b ⊎ (IsDigit b ⊎ ((b ≡ 39) ⊎ (b ≡ 95)))
+IsAlphanumericByte b = IsTrue (is_alphanumeric_byte b)
 
--- one of the symbols of which symbolic words are made
-unfoldable pub IsSymbolicByte : ℕ → Type 0
-IsSymbolicByte b = Contains (codes "!%&$#+-/:<=>?@\\~`^|*") b
+-- a symbol
+abbrev pub IsSymbolicByte : ℕ → Type 0
+IsSymbolicByte b = IsTrue (is_symbolic_byte b)
 
 -- one byte of the first sort, and then any number of the second
 abbrev pub OneThen : (ℕ → Type 0) → (ℕ → Type 0) → List ℕ → Type 0
@@ -86,10 +102,6 @@ spelling word.KwStructure = codes "structure"
 spelling word.KwWhere = codes "where"
 spelling word.KwSeal = codes ":>"
 
--- the text is a reserved word
-abbrev pub IsReserved : List ℕ → Type 0
-IsReserved text = (word : Word) × (text ≡ spelling word)
-
 -- the text is no reserved word
 abbrev pub IsUnreserved : List ℕ → Type 0
 IsUnreserved text = (word : Word) → text ≡ spelling word → ⊥
@@ -101,3 +113,16 @@ IsAlphanumeric text = OneThen IsLetter IsAlphanumericByte text × IsUnreserved t
 -- a symbolic identifier: at least one symbol, nothing but symbols, and no reserved word
 abbrev pub IsSymbolic : List ℕ → Type 0
 IsSymbolic text = OneThen IsSymbolicByte IsSymbolicByte text × IsUnreserved text
+
+-- an identifier: an alphanumeric or a symbolic one
+abbrev pub IsIdentifier : List ℕ → Type 0
+IsIdentifier text = IsAlphanumeric text ⊎ IsSymbolic text
+
+-- whether the text is a numeral: digits, and the first of them isn't 0
+abbrev pub is_numeral : List ℕ → Bool
+is_numeral [] = false
+is_numeral (b ∷ text) = not (nat_eq b 48) && list_all is_digit (b ∷ text)
+
+-- a numeral
+abbrev pub IsNumeral : List ℕ → Type 0
+IsNumeral text = IsTrue (is_numeral text)

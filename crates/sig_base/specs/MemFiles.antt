@@ -1,9 +1,11 @@
 -- Files in memory: what they hold, which reads fail, and what a failure counts.
-use Rattle.std.specs.Prelude.{◌≡◌, ◌⊎◌, ℕ, ◌+◌, ◌==◌, cond, List, [], ◌∷◌, map, Option, None, ⊤, bytes_eq}
-use Rattle.std.specs.List.{AllByRecursion}
+use Rattle.std.specs.Prelude.{◌≡◌, ◌⊎◌, ℕ, zero, suc, ◌+◌, ◌-◌, ◌^◌, min, List, [], ◌∷◌, map, Option, None, ⊤, bytes_eq}
+use Rattle.std.specs.List.{AllByRecursion, position_from}
 use Rattle.std.specs.FinMap.{from_entries, get}
+use Rattle.sig_base.specs.FaultCounts.{count_at}
 use Rattle.sig_base.specs.FileMap.{FileMap}
 use Rattle.sig_base.specs.Script.{FailsCall}
+use Rattle.sig_base.specs.declared.fault_counts.FaultCounts.{FaultCounts}
 use Rattle.sig_base.specs.declared.mem_file.MemFile.{MemFile}
 use Rattle.sig_base.specs.declared.mem_files.MemFiles.{MemFiles}
 
@@ -20,27 +22,31 @@ entry file = (file.path, file.bytes)
 abbrev pub map_of : List MemFile → FileMap
 map_of files = from_entries (map entry files)
 
--- how many files stand before the one at this path, and the number of all where there is none
-abbrev pub place_in : List MemFile → List ℕ → ℕ
-place_in [] path = 0
-place_in (file ∷ files) path = cond (bytes_eq path file.path) 0 (place_in files path + 1)
+-- the files, where the one of a place has these bytes
+abbrev pub with_bytes : List MemFile → ℕ → List ℕ → List MemFile
+with_bytes [] place bytes = []
+with_bytes (file ∷ files) zero bytes = record file { bytes = bytes } ∷ files
+with_bytes (file ∷ files) (suc place) bytes = file ∷ with_bytes files place bytes
 
--- how often a number stands in a list
-abbrev pub times_in : List ℕ → ℕ → ℕ
-times_in [] number = 0
-times_in (first ∷ rest) number = cond (first == number) 1 0 + times_in rest number
+-- the place of the first file at this path
+abbrev pub place_in : List MemFile → List ℕ → Option ℕ
+place_in files path = position_from (λ file. bytes_eq path file.path) 0 files
 
--- how often the file at a path, or a path of no file, stands among those whose reading failed
-abbrev pub counts_in : List MemFile → List ℕ → List ℕ → ℕ
-counts_in files failed path = times_in failed (place_in files path)
+-- the count of a path: that of its file, or the one of all paths of no file
+abbrev pub counts_in : List MemFile → FaultCounts → List ℕ → ℕ
+counts_in files counts path = count_at counts (place_in files path)
 
 -- the files, by their paths
 abbrev pub files_of : MemFiles → FileMap
-files_of memory = map_of memory.files
+files_of memory = map_of memory.files.items
 
 -- for each path how many reads have failed
-abbrev pub counts_of : MemFiles → List ℕ → ℕ
-counts_of memory path = counts_in memory.files memory.failed path
+abbrev pub read_counts_of : MemFiles → List ℕ → ℕ
+read_counts_of memory = counts_in memory.files.items memory.read_faults
+
+-- for each path how many calls that write have failed
+abbrev pub write_counts_of : MemFiles → List ℕ → ℕ
+write_counts_of memory = counts_in memory.files.items memory.write_faults
 
 -- the numbers of the calls that are to fail
 abbrev pub script_of : MemFiles → List ℕ
@@ -50,15 +56,19 @@ script_of memory = memory.script.fails
 abbrev pub call_of : MemFiles → Option ℕ
 call_of memory = memory.script.next
 
+-- the next call fails, since its number is in the script
+abbrev pub IsScripted : MemFiles → Type 0
+IsScripted memory = FailsCall (call_of memory) (script_of memory)
+
 -- a read of this path fails now: its number is in the script, or there is no file
 abbrev pub FailsAt : MemFiles → List ℕ → Type 0
-FailsAt memory path = FailsCall (call_of memory) (script_of memory) ⊎ (get (files_of memory) path ≡ None)
+FailsAt memory path = IsScripted memory ⊎ (get (files_of memory) path ≡ None)
 
 -- two paths have one count: they are the same, or both are outside the map
 abbrev pub SharesCount : FileMap → List ℕ → List ℕ → Type 0
 SharesCount files path other = (path ≡ other) ⊎ ((get files path ≡ None) × (get files other ≡ None))
 
--- a failure at a path raised its count by one, and no other
+-- a failure at a path raised its count by one, as far as `u64` goes, and no other
 pub record RaisedAt (files : FileMap) (path : List ℕ) (before now : List ℕ → ℕ) : Type 0 where
-  pub own : (other : List ℕ) → SharesCount files path other → now other ≡ before other + 1
+  pub own : (other : List ℕ) → SharesCount files path other → now other ≡ min (before other + 1) (2 ^ 64 - 1)
   pub others : (other : List ℕ) → ¬ (SharesCount files path other) → now other ≡ before other

@@ -1,11 +1,14 @@
 // What no clause says: that calls can succeed, and what the system gives.
-ghost use Rattle.std.specs.Prelude.{◌≡◌, IfOk};
+ghost use Rattle.std.specs.Prelude.{◌≡◌, ◌+◌, ◌<◌, IfOk};
 ghost use Rattle.sig_base.specs.Faults.{HasCauseAt};
 ghost use Rattle.sig_base.specs.MemFiles.{DistinctPaths};
 
 use crate::*;
 use std::alloc::Global;
-use std::fs::{File, OpenOptions};
+use std::fs::{OpenOptions, remove_file};
+use std::marker::Brand;
+use std::mem::size_of;
+use std::sync::ledger::{Blank, Ledger};
 use std::test::Fail;
 
 #[test]
@@ -34,6 +37,25 @@ fn holds_values(rt: HostRuntime) -> Result<(), Fail> {
     let boxed = Boxed::new(alloc, 7u8)?;
     assert_eq!(rt; *boxed.get(), 7);
     assert_eq!(rt; boxed.into_inner(), 7);
+    Ok(())
+}
+
+#[test]
+fn takes_the_last_values_off(rt: HostRuntime) -> Result<(), Fail> {
+    let mut stack = Stack::new(rt.alloc());
+    let below = stack.push_counted(0, 1u64)?;
+    let count = stack.push_counted(0, 2)?;
+    let count = stack.push_counted(count, 3)?;
+    let taken = stack.take_last(count)?;
+    assert_eq!(rt; taken.as_slice(), [2, 3].as_slice());
+    assert!(rt; !stack.has_none(below));
+    assert_eq!(rt; stack.pop(), Some(1));
+    assert!(rt; stack.has_none(below));
+    // A count of more than there are stands for all of them.
+    assert_eq!(rt; stack.push_counted(5, 4)?, 1);
+    let taken = stack.take_all()?;
+    assert_eq!(rt; taken.as_slice(), [4].as_slice());
+    assert!(rt; stack.is_empty());
     Ok(())
 }
 
@@ -80,15 +102,15 @@ fn reads_files_whole(rt: HostRuntime) -> Result<(), Fail> {
     for (path, limit, failing, want) in [
         ("short.sig", 10, 9, Ok(10)),
         ("short.sig", 9, 9, Err(ReadRefusal::TooLong)),
-        ("long.sig", 70_000, 9, Ok(70_000)),
-        ("long.sig", 69_999, 9, Err(ReadRefusal::TooLong)),
+        ("long.sig", 300_000, 9, Ok(300_000)),
+        ("long.sig", 299_999, 9, Err(ReadRefusal::TooLong)),
         ("long.sig", 0, 2, Err(ReadRefusal::TooLong)),
-        ("long.sig", 70_000, 3, Err(ReadRefusal::ReadFault)),
+        ("long.sig", 300_000, 2, Err(ReadRefusal::ReadFault)),
         ("short.sig", 10, 1, Err(ReadRefusal::ReadFault)),
         ("short.sig", 10, 3, Ok(10)),
         ("none.sig", 10, 9, Err(ReadRefusal::ReadFault)),
     ] {
-        let mut files = two_files(rt.alloc(), failing, 70_000)?;
+        let mut files = two_files(rt.alloc(), failing, 300_000)?;
         assert_eq!(rt;
             length_of(rt.alloc(), &mut files, path, limit),
             want,
@@ -103,11 +125,21 @@ fn reads_files_whole(rt: HostRuntime) -> Result<(), Fail> {
 struct Drip;
 
 impl Files for Drip {
-    ghost use Rattle.std.specs.Prelude.{None};
+    ghost use Rattle.std.specs.Prelude.{None, ⊤, refl};
 
     ghost files = { λ _. None };
 
     ghost read_faults = { λ _ _. 0 };
+
+    ghost write_faults = { λ _ _. 0 };
+
+    ghost gives = { λ _ _ _ _ _ _. ⊤ };
+
+    ghost tells = { λ _ _ _ _ _ _ _. record { kept = refl; piece = tt } };
+
+    fn expected_length(&self, _path: &str) -> u64 {
+        5
+    }
 
     fn read(&mut self, _path: &str, at: u64, buf: &mut [u8]) -> Result<usize, Trouble> {
         if at >= 5 || buf.is_empty() {
@@ -115,6 +147,14 @@ impl Files for Drip {
         }
         buf[0] = b"hello"[at as usize];
         Ok(1)
+    }
+
+    fn create(&mut self, _path: &str) -> Result<(), Trouble> {
+        Err(Trouble::NoMemory)
+    }
+
+    fn append(&mut self, _path: &str, _piece: &[u8]) -> Result<(), Trouble> {
+        Err(Trouble::NoMemory)
     }
 }
 
@@ -126,6 +166,33 @@ fn reads_on_after_a_short_read(rt: HostRuntime) -> Result<(), Fail> {
         length_of(rt.alloc(), &mut Drip, "drip", 4),
         Err(ReadRefusal::TooLong)
     );
+    Ok(())
+}
+
+// What is at a path after one that creates and two that append, of which calls this one fails.
+fn written(alloc: Global, path: &str, failing: u64) -> Result<List<u8>, ReadRefusal> {
+    let Ok(mut files) = two_files(alloc, failing, 3) else {
+        return Err(ReadRefusal::NoMemory);
+    };
+    let _created = files.create(path);
+    let _first = files.append(path, b"ab");
+    let _second = files.append(path, b"c");
+    read_whole(alloc, &mut files, path, 99)
+}
+
+#[test]
+fn writes_files(rt: HostRuntime) -> Result<(), Fail> {
+    for (path, failing, want) in [
+        ("new.idx", 9, "abc"),
+        ("new.idx", 1, "abc"),
+        ("new.idx", 2, "c"),
+        ("long.sig", 9, "abc"),
+        ("long.sig", 1, "\u{7}\u{7}\u{7}abc"),
+        ("long.sig", 3, "ab"),
+    ] {
+        let bytes = written(rt.alloc(), path, failing)?;
+        assert_eq!(rt; bytes.as_slice(), want.as_bytes(), "{path} {failing}");
+    }
     Ok(())
 }
 
@@ -169,6 +236,47 @@ fn reads_files_of_the_system(rt: HostRuntime) -> Result<(), Fail> {
         files.read("/dev/null/none.sig", 0, &mut buf),
         Err(Trouble::Failed)
     );
+    Ok(())
+}
+
+#[test]
+fn writes_files_of_the_system(rt: HostRuntime) -> Result<(), Fail> {
+    let alloc = rt.alloc();
+    let path = "sig_base_test.txt";
+    let mut files = HostFiles::new(rt);
+    for _ in 0..2 {
+        assert_eq!(rt; files.create(path), Ok(()));
+        assert_eq!(rt; files.append(path, b"one "), Ok(()));
+        assert_eq!(rt; files.append(path, b"two"), Ok(()));
+        let bytes = read_whole(alloc, &mut files, path, 99)?;
+        assert_eq!(rt; bytes.as_slice(), b"one two".as_slice());
+    }
+    remove_file(&rt, path)?;
+    assert_eq!(rt; files.append("/dev/full", b"x"), Err(Trouble::Failed));
+    assert_eq!(rt; files.create("/dev/null/x"), Err(Trouble::Failed));
+    Ok(())
+}
+
+// Counts two more.
+fn tick_twice<L: Ledger>(steps: &mut Steps<L>)
+    ensures two { steps.new ≡ steps.old + 2 }
+{
+    steps.tick();
+    steps.tick();
+}
+
+fn count_two<L: Ledger>(blank: Blank)
+    requires name { blank.name ≡ L.name }
+    requires parts { blank.parts ≡ L.parts }
+    requires some { 0 < blank.parts }
+{
+    tick_twice(&mut Steps::<L>::new(blank));
+}
+
+#[test]
+fn counts_without_bytes(rt: HostRuntime) -> Result<(), Fail> {
+    count_two::<Brand>(Blank::new(1));
+    assert_eq!(rt; size_of::<Steps<Brand>>(), 0);
     Ok(())
 }
 

@@ -1,20 +1,20 @@
 -- The bodies and the bindings that a reading holds, where one more is begun, ended or added to.
-use Rattle.std.proofs.Common.{◌≡◌, ℕ, ◌+◌, List, [], ◌∷◌, ◌++◌, Bool, Some, None, Result, Ok, Err, length, reverse, refl, ap, sym, ◌∙◌, arith}
+use Rattle.std.proofs.Common.{◌≡◌, ℕ, List, [], ◌∷◌, ◌++◌, Bool, None, Result, Ok, Err, reverse, refl, ap, sym, ◌∙◌}
 use Rattle.std.specs.Prelude.{IfOk}
 use Rattle.sig_base.specs.declared.no_memory.NoMemory.{NoMemory}
 use Rattle.std.proofs.lemmas.List.{reverse-append, reverse-reverse}
 use Rattle.ty_parser.specs.declared.sort.Sort.{Sort}
 use Rattle.ty_parser.specs.declared.sort.Sort.TheVariants as s
 use Rattle.sig_base.specs.declared.word.Word.TheVariants as w
-use Rattle.ty_parser.specs.Machine.{taken}
-use Rattle.ty_parser.proofs.Stacks.{last_of-more, before_last-more}
+use Rattle.ty_parser.specs.machine.Machine.{taken}
+use Rattle.sig_base.specs.Stacks.{last_of, before_last}
 use Rattle.sig_parser.specs.declared.tree.TopDec.{TopDec}
 use Rattle.sig_parser.specs.declared.tree.Bind.{Bind}
 use Rattle.sig_parser.specs.declared.tree.Spec.{Spec}
 use Rattle.sig_parser.specs.declared.point.Level as held
-use Rattle.sig_parser.specs.Goals.{Level}
-use Rattle.sig_parser.specs.Machine.{State, level, with_spec, item, spec_item, top_item}
-use Rattle.sig_parser.specs.Views.{levels_of, goal_of, before_goal}
+use Rattle.sig_parser.specs.machine.Goals.{Level}
+use Rattle.sig_parser.specs.machine.Machine.{State, level, with_spec, item, spec_item, top_item}
+use Rattle.sig_parser.specs.machine.Views.{levels_of, goal_of, before_goal}
 
 -- the innermost body, the last of those that are held
 module _ (ls rest : List held.Level) (last l : held.Level) (popped : ls ≡ rest ++ last ∷ []) (is : last ≡ l) (xs : List Spec) (bs : List Bind) where
@@ -22,13 +22,12 @@ module _ (ls rest : List held.Level) (last l : held.Level) (popped : ls ≡ rest
   last_body = ap (λ ls. levels_of ls xs bs) (ap reverse popped ∙ reverse-append rest (last ∷ []) ∙ ap (λ l. l ∷ reverse rest) is)
 
   -- one specification more
-  pub with_spec_is : (ls' : List held.Level) (xs' : List Spec) (x : Spec) (n : ℕ) → xs' ≡ xs ++ x ∷ [] → n ≡ l.specs + 1 → ls' ≡ rest ++ record { goal = l.goal; first = l.first; specs = n } ∷ []
+  pub with_spec_is : (ls' : List held.Level) (xs' : List Spec) (x : Spec) (n : ℕ) → last_of n xs' ≡ last_of l.specs xs ++ x ∷ [] → before_last n xs' ≡ before_last l.specs xs
+      → ls' ≡ rest ++ record { goal = l.goal; first = l.first; specs = n } ∷ []
       → levels_of (reverse ls') xs' bs ≡ with_spec (levels_of (reverse ls) xs bs) x
   unfolding with_spec
-  with_spec_is ls' xs' x n pushed counted back =
+  with_spec_is ls' xs' x n more before back =
       let outer = ap reverse back ∙ reverse-append rest (record { goal = l.goal; first = l.first; specs = n } ∷ []) in
-      let more = last_of-more l.specs n xs xs' x pushed counted in
-      let before = before_last-more l.specs n xs xs' x pushed counted in
       (λ i. levels_of (outer i) xs' bs)
       ∙ (λ i. level (goal_of l.goal bs) l.first (more i) ∷ levels_of (reverse rest) (before i) (before_goal l.goal bs))
       ∙ sym (ap (λ ls. with_spec ls x) last_body)

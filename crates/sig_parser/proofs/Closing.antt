@@ -1,50 +1,41 @@
 -- Each state can go on to the end of a file.
-use Rattle.std.proofs.Common.{◌≡◌, ℕ, zero, suc, ◌+◌, Bool, true, false, List, [], ◌∷◌, ◌++◌, length, Option, Some, None, refl, ap, sym, ◌∙◌, arith}
+use Rattle.std.proofs.Common.{◌≡◌, ℕ, zero, suc, ◌+◌, List, [], ◌∷◌, ◌++◌, length, Option, Some, None, refl, ap, ◌∙◌, arith}
 use Rattle.std.specs.Prelude.{option_and_then}
 use Rattle.std.specs.List.{enumerate_from}
-use Rattle.sig_base.specs.declared.word.Word.{Word}
 use Rattle.sig_base.specs.declared.word.Word.TheVariants as w
 use Rattle.ty_parser.specs.declared.sort.Sort.{Sort}
 use Rattle.ty_parser.specs.declared.sort.Sort.TheVariants as s
-use Rattle.ty_parser.specs.declared.tree.TyExp.{TyExp}
 use Rattle.ty_parser.specs.declared.tree.TypeAt.{TypeAt}
-use Rattle.ty_parser.specs.Grammar.{Numbered, Ty}
-use Rattle.ty_parser.specs.Sorts.{is_vid, is_tycon, is_long_tycon, is_strid, is_long_strid}
-use Rattle.ty_parser.specs.Machine as types
-use Rattle.ty_parser.specs.Machine.{run}
+use Rattle.ty_parser.specs.machine.Machine as types
+use Rattle.ty_parser.specs.machine.Machine.{run}
 use Rattle.sig_parser.specs.declared.tree.SourceFile.{SourceFile}
 use Rattle.sig_parser.specs.declared.tree.TopDec.{TopDec}
-use Rattle.sig_parser.specs.declared.tree.TopDec.TheVariants as topdec
 use Rattle.sig_parser.specs.declared.tree.Bind.{Bind}
 use Rattle.sig_parser.specs.declared.tree.SigExp.{SigExp}
-use Rattle.sig_parser.specs.declared.tree.SigBase.{SigBase}
-use Rattle.sig_parser.specs.declared.tree.SigBase.TheVariants as base
-use Rattle.sig_parser.specs.declared.tree.WherePart.{WherePart}
 use Rattle.sig_parser.specs.declared.tree.Spec.{Spec}
 use Rattle.sig_parser.specs.declared.tree.Spec.TheVariants as spec
 use Rattle.sig_parser.specs.declared.tree.ValDesc.{ValDesc}
-use Rattle.sig_parser.specs.declared.tree.TypeDesc.{TypeDesc}
 use Rattle.sig_parser.specs.declared.tree.DataDesc.{DataDesc}
 use Rattle.sig_parser.specs.declared.tree.ConDesc.{ConDesc}
 use Rattle.sig_parser.specs.declared.point.Group.{Group}
 use Rattle.sig_parser.specs.declared.point.Group.TheVariants as group
-use Rattle.sig_parser.specs.Goals.{Goal, Level, Open}
-use Rattle.sig_parser.specs.Goals as goal
-use Rattle.sig_parser.specs.Heads.{Headed}
-use Rattle.sig_parser.specs.Heads as headed
-use Rattle.sig_parser.specs.Constructors.{Cons}
-use Rattle.sig_parser.specs.Constructors as cons
-use Rattle.sig_parser.specs.Owners.{Owner}
-use Rattle.sig_parser.specs.Owners as owner
+use Rattle.sig_parser.specs.machine.Goals.{Goal, Level, Open}
+use Rattle.sig_parser.specs.machine.Goals as goal
+use Rattle.sig_parser.specs.machine.Heads.{Headed}
+use Rattle.sig_parser.specs.machine.Heads as headed
+use Rattle.sig_parser.specs.machine.Constructors.{Cons}
+use Rattle.sig_parser.specs.machine.Constructors as cons
+use Rattle.sig_parser.specs.machine.Owners.{Owner}
+use Rattle.sig_parser.specs.machine.Owners as owner
 use Rattle.sig_parser.specs.declared.point.Shared.{Shared}
 use Rattle.sig_parser.specs.declared.point.Shared.TheVariants as shared
-use Rattle.sig_parser.specs.Points.{Point}
-use Rattle.sig_parser.specs.Points as point
+use Rattle.sig_parser.specs.machine.Points.{Point}
+use Rattle.sig_parser.specs.machine.Points as point
 use Rattle.ty_parser.proofs.Runs.{enumerate_from-append}
 use Rattle.ty_parser.proofs.Complete.{steps-run_within}
 use Rattle.ty_parser.proofs.Closing as type_closing
 use Rattle.sig_parser.specs.Grammar.{name_of}
-use Rattle.sig_parser.specs.Machine.{State, At, InType, bind, sig_of, open_name, open_body, value, description, datatype, con, shared_spec, is_between, is_name, is_shared, with_part, with_spec, top_item, begin_spec, spec_item, item, bound, want_id, have_id, want_sig, leave, have_sig, have_name, after_where, have_part, after_and, want_val, have_val, vals, types_, eqtypes, datatypes, want_tycon, want_params, want_param, have_param, where_tycon, type_tycon, datatype_tycon, after_equals, want_replica, want_con, constructors, exceptions, have_cons, have_con, includes, after_sharing, after_sharing_type, one_shared, want_shared, have_shared, begin_type, step_at, owned, step, ended, finish}
+use Rattle.sig_parser.specs.machine.Machine.{State, At, InType, bind, sig_of, open_body, value, description, con, shared_spec, with_spec, top_item, begin_spec, spec_item, item, bound, want_id, have_id, want_sig, leave, have_sig, have_name, after_where, have_part, after_and, want_val, have_val, vals, types_, eqtypes, datatypes, want_tycon, want_params, want_param, have_param, where_tycon, type_tycon, datatype_tycon, after_equals, want_replica, want_con, constructors, exceptions, have_cons, have_con, includes, after_sharing, after_sharing_type, one_shared, want_shared, have_shared, begin_type, owned, step, ended, finish}
 use Rattle.sig_parser.proofs.Leads.{parse, type_follows, type_covers}
 
 -- further sorts, numbered from n, with which the state comes to the end of a file

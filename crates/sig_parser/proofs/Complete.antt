@@ -1,48 +1,32 @@
 -- What the grammar of files has, the machine reads.
-use Rattle.std.proofs.Common.{◌≡◌, ℕ, Bool, true, false, List, [], ◌∷◌, ◌++◌, Option, Some, None, refl, ap, sym, ◌∙◌, subst}
-use Rattle.std.specs.Prelude.{IsTrue, option_and_then, if◌then◌else◌}
-use Rattle.sig_base.specs.declared.word.Word.{Word}
+use Rattle.std.proofs.Common.{◌≡◌, ℕ, Bool, List, [], ◌∷◌, ◌++◌, Some, None, refl, ap, ◌∙◌, subst}
+use Rattle.std.specs.Prelude.{IsTrue}
 use Rattle.sig_base.specs.declared.word.Word.TheVariants as w
 use Rattle.ty_parser.specs.declared.sort.Sort.{Sort}
 use Rattle.ty_parser.specs.declared.sort.Sort.TheVariants as s
-use Rattle.ty_parser.specs.declared.tree.TyExp.{TyExp}
-use Rattle.ty_parser.specs.declared.tree.TypeAt.{TypeAt}
-use Rattle.ty_parser.specs.Grammar.{Numbered, Ty}
-use Rattle.ty_parser.specs.Sorts.{is_vid, is_tycon, is_long_tycon, is_strid, is_long_strid}
-use Rattle.ty_parser.specs.Machine as types
-use Rattle.ty_parser.specs.Machine.{run}
-use Rattle.sig_parser.specs.declared.tree.SourceFile.{SourceFile}
+use Rattle.ty_parser.specs.Grammar.{Numbered}
+use Rattle.ty_parser.specs.Sorts.{is_tycon, is_long_tycon, is_strid, is_long_strid}
 use Rattle.sig_parser.specs.declared.tree.TopDec.{TopDec}
-use Rattle.sig_parser.specs.declared.tree.TopDec.TheVariants as topdec
 use Rattle.sig_parser.specs.declared.tree.Bind.{Bind}
 use Rattle.sig_parser.specs.declared.tree.SigExp.{SigExp}
 use Rattle.sig_parser.specs.declared.tree.SigBase.{SigBase}
-use Rattle.sig_parser.specs.declared.tree.SigBase.TheVariants as base
 use Rattle.sig_parser.specs.declared.tree.WherePart.{WherePart}
 use Rattle.sig_parser.specs.declared.tree.Spec.{Spec}
 use Rattle.sig_parser.specs.declared.tree.Spec.TheVariants as spec
-use Rattle.sig_parser.specs.declared.tree.ValDesc.{ValDesc}
-use Rattle.sig_parser.specs.declared.tree.TypeDesc.{TypeDesc}
-use Rattle.sig_parser.specs.declared.tree.DataDesc.{DataDesc}
-use Rattle.sig_parser.specs.declared.tree.ConDesc.{ConDesc}
 use Rattle.sig_parser.specs.declared.point.Group.{Group}
 use Rattle.sig_parser.specs.declared.point.Group.TheVariants as group
-use Rattle.sig_parser.specs.Goals.{Goal, Level, Open}
-use Rattle.sig_parser.specs.Goals as goal
-use Rattle.sig_parser.specs.Heads.{Headed}
-use Rattle.sig_parser.specs.Heads as headed
-use Rattle.sig_parser.specs.Constructors.{Cons}
-use Rattle.sig_parser.specs.Constructors as cons
-use Rattle.sig_parser.specs.Owners.{Owner}
-use Rattle.sig_parser.specs.Owners as owner
-use Rattle.sig_parser.specs.declared.point.Shared.{Shared}
+use Rattle.sig_parser.specs.machine.Goals.{Goal, Level, Open}
+use Rattle.sig_parser.specs.machine.Goals as goal
+use Rattle.sig_parser.specs.machine.Heads.{Headed}
+use Rattle.sig_parser.specs.machine.Heads as headed
+use Rattle.sig_parser.specs.machine.Constructors.{Cons}
+use Rattle.sig_parser.specs.machine.Constructors as cons
 use Rattle.sig_parser.specs.declared.point.Shared.TheVariants as shared
-use Rattle.sig_parser.specs.Points.{Point}
-use Rattle.sig_parser.specs.Points as point
+use Rattle.sig_parser.specs.machine.Points.{Point}
+use Rattle.sig_parser.specs.machine.Points as point
 use Rattle.sig_parser.specs.Grammar as grammar
-use Rattle.sig_parser.specs.Grammar.{Equated, equated, Value, Abbreviation, Constructor, DatDesc, Con, Sig, sigexp, Base, body, name, Specs, no_specs, more_specs, semicolon, Described, Bindings, one_binding, more_bindings, Binding, binding, Declared, signature, top_structure, TopDecs, no_decs, more_decs, top_semicolon}
-use Rattle.sig_parser.specs.Machine as machine
-use Rattle.sig_parser.specs.Machine.{State, At, start, bind, open_name, level, is_between, is_shared, with_spec, top_item, begin_spec, spec_item, bound, want_id, have_id, begin_body, want_sig, have_sig, vals, types_, eqtypes, datatypes, want_params, datatype_tycon, replica, after_equals, want_replica, want_con, exceptions, sharing_type, after_sharing, after_sharing_type, one_shared, step, ended, finish}
+use Rattle.sig_parser.specs.Grammar.{Equated, equated, ValueDescription, TypeAbbreviation, TypeDescription, DatatypeDescription, ConstructorDescription, SignatureExpression, sigexp, SignatureBase, body, name, Specifications, no_specs, more_specs, semicolon, Specification, Bindings, one_binding, more_bindings, Binding, binding, TopDeclaration, signature, top_structure, TopDeclarations, no_decs, more_decs, top_semicolon}
+use Rattle.sig_parser.specs.machine.Machine.{At, start, bind, level, is_between, with_spec, top_item, begin_spec, spec_item, bound, want_id, have_id, begin_body, want_sig, vals, types_, eqtypes, datatypes, want_params, datatype_tycon, replica, after_equals, want_replica, exceptions, sharing_type, after_sharing, after_sharing_type, one_shared, ended}
 use Rattle.sig_parser.proofs.Leads.{parse, Leads, separated_leads}
 use Rattle.sig_parser.proofs.Covers.{signatures_cover, structures_cover, members_cover, vals_cover, types_cover, eqtypes_cover, datatypes_cover, exceptions_cover, includes_cover, shared_cover, include_covers, with_goal, binding_covers, name_covers}
 use Rattle.sig_parser.proofs.Described.{accepted, value_leads, abbreviation_leads, constructor_leads, datdesc_leads, con_leads, names_lead, shared_lead, wheres_lead}
@@ -79,32 +63,32 @@ equated_structures decs l ls ts r is (equated {i = i} {e = e} {so = so} {ts = m}
 mutual
   unfolding with_spec spec_item begin_spec begin_body want_sig vals types_ eqtypes datatypes exceptions bound after_sharing sharing_type want_id have_id
 
-  pub sig_leads : {ts r : List Numbered} {x : SigExp} (decs : List TopDec) (ls : List Level) (g : Goal) → Sig ts r x → SigLeads decs ls g ts r x
+  pub sig_leads : {ts r : List Numbered} {x : SigExp} (decs : List TopDec) (ls : List Level) (g : Goal) → SignatureExpression ts r x → SigLeads decs ls g ts r x
   sig_leads decs ls g (sigexp {i = i} {b = b} {ps = ps} d w) =
       record { first = i; base = b; parts = ps; is = refl; leads = λ f h. base_leads decs ls g d f (wheres_lead decs ls i b g w f h) }
 
-  pub base_leads : {i : ℕ} {so : Sort} {ts r : List Numbered} {b : SigBase} (decs : List TopDec) (ls : List Level) (g : Goal) → Base ((i, so) ∷ ts) r b → Leads (At decs ls (point.WantSig g)) ((i, so) ∷ ts) (At decs ls (point.HaveSig (with_goal i b [] g))) r
+  pub base_leads : {i : ℕ} {so : Sort} {ts r : List Numbered} {b : SigBase} (decs : List TopDec) (ls : List Level) (g : Goal) → SignatureBase ((i, so) ∷ ts) r b → Leads (At decs ls (point.WantSig g)) ((i, so) ∷ ts) (At decs ls (point.HaveSig (with_goal i b [] g))) r
   base_leads decs ls g (body {i = i} d) f h = specs_lead decs g i ls d f h
   base_leads {r = r} decs ls g (name {i = i} {so = so} n) f h =
       accepted (At decs ls (point.WantSig g)) (At decs ls (point.HaveName g i)) (is_strid so) _ (i, so) r refl n f (name_covers decs ls g i r f h)
 
-  pub specs_lead : {ts r : List Numbered} {xs : List Spec} (decs : List TopDec) (g : Goal) (first : ℕ) (ls : List Level) → Specs ts r xs → Leads (At decs (level g first [] ∷ ls) point.Items) ts (At decs (level g first xs ∷ ls) point.Items) r
+  pub specs_lead : {ts r : List Numbered} {xs : List Spec} (decs : List TopDec) (g : Goal) (first : ℕ) (ls : List Level) → Specifications ts r xs → Leads (At decs (level g first [] ∷ ls) point.Items) ts (At decs (level g first xs ∷ ls) point.Items) r
   specs_lead decs g first ls no_specs f h = h
   specs_lead decs g first ls (more_specs {xs = xs} d x) f h = specs_lead decs g first ls d f (spec_leads decs (level g first xs) ls x f h)
   specs_lead decs g first ls (semicolon d) f h = specs_lead decs g first ls d f h
 
-  pub spec_leads : {ts r : List Numbered} {x : Spec} (decs : List TopDec) (l : Level) (ls : List Level) → Described ts r x → Leads (At decs (l ∷ ls) point.Items) ts (At decs (with_spec (l ∷ ls) x) point.Items) r
+  pub spec_leads : {ts r : List Numbered} {x : Spec} (decs : List TopDec) (l : Level) (ls : List Level) → Specification ts r x → Leads (At decs (l ∷ ls) point.Items) ts (At decs (with_spec (l ∷ ls) x) point.Items) r
   spec_leads {r = r} decs l ls (grammar.val {ds = ds} d) f h =
-      separated_leads w.KwAnd Value (λ ds. At decs (l ∷ ls) (point.WantVal ds)) (λ ds. At decs (l ∷ ls) (point.Vals ds)) (value_leads decs (l ∷ ls)) (λ ds i m f h. h) d f (vals_cover decs l ls ds r f h)
+      separated_leads w.KwAnd ValueDescription (λ ds. At decs (l ∷ ls) (point.WantVal ds)) (λ ds. At decs (l ∷ ls) (point.Vals ds)) (value_leads decs (l ∷ ls)) (λ ds i m f h. h) d f (vals_cover decs l ls ds r f h)
   spec_leads {r = r} decs l ls (grammar.types {ds = ds} d) f h =
-      separated_leads w.KwAnd Abbreviation (λ ds. At decs (l ∷ ls) (point.WantParams (headed.Abbrev ds))) (λ ds. At decs (l ∷ ls) (point.Types ds)) (abbreviation_leads decs l ls) (λ ds i m f h. h) d f (types_cover decs l ls ds r f h)
+      separated_leads w.KwAnd TypeAbbreviation (λ ds. At decs (l ∷ ls) (point.WantParams (headed.Abbrev ds))) (λ ds. At decs (l ∷ ls) (point.Types ds)) (abbreviation_leads decs l ls) (λ ds i m f h. h) d f (types_cover decs l ls ds r f h)
   spec_leads {r = r} decs l ls (grammar.eqtype {ds = ds} d) f h =
-      separated_leads w.KwAnd Constructor (λ ds. At decs (l ∷ ls) (point.WantParams (headed.Eqtype ds))) (λ ds. At decs (l ∷ ls) (point.Eqtypes ds)) (constructor_leads decs l ls) (λ ds i m f h. h) d f (eqtypes_cover decs l ls ds r f h)
+      separated_leads w.KwAnd TypeDescription (λ ds. At decs (l ∷ ls) (point.WantParams (headed.Eqtype ds))) (λ ds. At decs (l ∷ ls) (point.Eqtypes ds)) (constructor_leads decs l ls) (λ ds i m f h. h) d f (eqtypes_cover decs l ls ds r f h)
   spec_leads {r = r} decs l ls (grammar.datatype {ds = ds} d) f h =
-      separated_leads w.KwAnd DatDesc (λ ds. At decs (l ∷ ls) (point.WantParams (headed.Datatype ds))) (λ ds. At decs (l ∷ ls) (point.Datatypes ds)) (datdesc_leads decs l ls) (λ ds i m f h. h) d f (datatypes_cover decs l ls ds r f h)
+      separated_leads w.KwAnd DatatypeDescription (λ ds. At decs (l ∷ ls) (point.WantParams (headed.Datatype ds))) (λ ds. At decs (l ∷ ls) (point.Datatypes ds)) (datdesc_leads decs l ls) (λ ds i m f h. h) d f (datatypes_cover decs l ls ds r f h)
   spec_leads {r = r} decs l ls (grammar.replica {i = i} {e = e} {d = d} {j = j} {so = so} {ro = ro} described replicated) f h = replica_leads decs l ls i e d j so ro r described replicated f h
   spec_leads {r = r} decs l ls (grammar.exception {cs = cs} d) f h =
-      separated_leads w.KwAnd Con (λ cs. At decs (l ∷ ls) (point.WantCon cons.Exception cs)) (λ cs. At decs (l ∷ ls) (point.HaveCons cons.Exception cs)) (con_leads decs l ls cons.Exception) (λ cs i m f h. h) d f (exceptions_cover decs l ls cs r f h)
+      separated_leads w.KwAnd ConstructorDescription (λ cs. At decs (l ∷ ls) (point.WantCon cons.Exception cs)) (λ cs. At decs (l ∷ ls) (point.HaveCons cons.Exception cs)) (con_leads decs l ls cons.Exception) (λ cs i m f h. h) d f (exceptions_cover decs l ls cs r f h)
   spec_leads {r = r} decs l ls (grammar.structure {bs = bs} d) f h = bindings_lead decs (l ∷ ls) group.Members d refl f (members_cover decs l ls bs r f h)
   spec_leads {r = r} decs l ls (grammar.include_one d) f h =
       let w = sig_leads decs (l ∷ ls) goal.Including d in
@@ -125,17 +109,17 @@ mutual
       (accepted (At decs ls (point.HaveId k bs i)) (At decs ls (point.WantSig (goal.Binding k bs i))) (is_between k co) None (c, co) ts refl (subst P same between) f
       (w.leads f (binding_covers w.first w.base w.parts decs ls k bs i r f (ap (λ x. parse (At decs ls (point.Bound k (bs ++ bind i x ∷ []))) r) w.is ∙ h))))
 
-pub dec_leads : {ts r : List Numbered} {d : TopDec} (decs : List TopDec) → Declared ts r d → Leads (At decs [] point.Items) ts (At (decs ++ d ∷ []) [] point.Items) r
+pub dec_leads : {ts r : List Numbered} {d : TopDec} (decs : List TopDec) → TopDeclaration ts r d → Leads (At decs [] point.Items) ts (At (decs ++ d ∷ []) [] point.Items) r
 unfolding top_item
 dec_leads {r = r} decs (signature {bs = bs} d) f h = bindings_lead decs [] group.Signatures d refl f (signatures_cover decs bs r f h)
 dec_leads {r = r} decs (top_structure {bs = bs} d) f h = bindings_lead decs [] group.Structures d refl f (structures_cover decs bs r f h)
 
-decs_lead : {ts r : List Numbered} {decs : List TopDec} → TopDecs ts r decs → Leads start ts (At decs [] point.Items) r
+decs_lead : {ts r : List Numbered} {decs : List TopDec} → TopDeclarations ts r decs → Leads start ts (At decs [] point.Items) r
 unfolding top_item
 decs_lead no_decs f h = h
 decs_lead (more_decs {ds = decs} d x) f h = decs_lead d f (dec_leads decs x f h)
 decs_lead (top_semicolon d) f h = decs_lead d f h
 
-pub parse_complete : {ts : List Numbered} {decs : List TopDec} → TopDecs ts [] decs → parse start ts ≡ Some (record { decs = decs })
+pub parse_complete : {ts : List Numbered} {decs : List TopDec} → TopDeclarations ts [] decs → parse start ts ≡ Some (record { decs = decs })
 unfolding ended
 parse_complete d = decs_lead d _ refl

@@ -1,15 +1,14 @@
 -- What the reader does where bodies are open, and where a type begins and ends.
-use Rattle.std.proofs.Common.{◌≡◌, ℕ, ◌+◌, ◌≤◌, Bool, true, false, List, [], ◌∷◌, Option, Some, None, length, reverse, refl, ap, sym, ◌∙◌, arith, is_some}
+use Rattle.std.proofs.Common.{◌≡◌, ℕ, Bool, true, false, List, Option, Some, None, refl, ap, ◌∙◌, is_some}
 use Rattle.std.specs.Option.{option_map}
-use Rattle.std.specs.Prelude.{option_and_then}
 use Rattle.ty_parser.specs.declared.sort.Sort.{Sort}
 use Rattle.ty_parser.specs.declared.tree.TyExp.{TyExp}
-use Rattle.ty_parser.specs.Machine as types
-use Rattle.ty_parser.specs.Machine.{taken}
+use Rattle.ty_parser.specs.machine.Machine as types
+use Rattle.ty_parser.specs.machine.Machine.{taken}
 use Rattle.sig_parser.specs.declared.tree.TopDec.{TopDec}
-use Rattle.sig_parser.specs.Goals.{Level}
-use Rattle.sig_parser.specs.Owners.{Owner}
-use Rattle.sig_parser.specs.Machine.{State, InType, begin_type, in_type, behind_type}
+use Rattle.sig_parser.specs.machine.Goals.{Level}
+use Rattle.sig_parser.specs.machine.Owners.{Owner}
+use Rattle.sig_parser.specs.machine.Machine.{InType, begin_type, in_type, behind_type}
 
 module _ (decs : List TopDec) (ls : List Level) (o : Owner) (i : ℕ) where
   taken_in_type : (can : Bool) (st : types.State) → taken can (InType decs ls o i st) ≡ option_map (InType decs ls o i) (taken can st)

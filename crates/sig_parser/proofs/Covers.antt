@@ -1,23 +1,12 @@
 -- Behind a phrase that may be whole the machine can do all that it can where it is.
-use Rattle.std.proofs.Common.{◌≡◌, ℕ, Bool, true, false, List, [], ◌∷◌, ◌++◌, Option, Some, None, refl, ap, ◌∙◌}
-use Rattle.std.specs.Prelude.{option_and_then, if◌then◌else◌}
-use Rattle.sig_base.specs.declared.word.Word.{Word}
+use Rattle.std.proofs.Common.{◌≡◌, ℕ, List, [], ◌∷◌, ◌++◌, None, refl}
 use Rattle.sig_base.specs.declared.word.Word.TheVariants as w
-use Rattle.ty_parser.specs.declared.sort.Sort.{Sort}
 use Rattle.ty_parser.specs.declared.sort.Sort.TheVariants as s
-use Rattle.ty_parser.specs.declared.tree.TyExp.{TyExp}
-use Rattle.ty_parser.specs.declared.tree.TypeAt.{TypeAt}
-use Rattle.ty_parser.specs.Grammar.{Numbered, Ty}
-use Rattle.ty_parser.specs.Sorts.{is_vid, is_tycon, is_long_tycon, is_strid, is_long_strid}
-use Rattle.ty_parser.specs.Machine as types
-use Rattle.ty_parser.specs.Machine.{run}
-use Rattle.sig_parser.specs.declared.tree.SourceFile.{SourceFile}
 use Rattle.sig_parser.specs.declared.tree.TopDec.{TopDec}
 use Rattle.sig_parser.specs.declared.tree.TopDec.TheVariants as topdec
 use Rattle.sig_parser.specs.declared.tree.Bind.{Bind}
 use Rattle.sig_parser.specs.declared.tree.SigExp.{SigExp}
 use Rattle.sig_parser.specs.declared.tree.SigBase.{SigBase}
-use Rattle.sig_parser.specs.declared.tree.SigBase.TheVariants as base
 use Rattle.sig_parser.specs.declared.tree.WherePart.{WherePart}
 use Rattle.sig_parser.specs.declared.tree.Spec.{Spec}
 use Rattle.sig_parser.specs.declared.tree.Spec.TheVariants as spec
@@ -27,19 +16,16 @@ use Rattle.sig_parser.specs.declared.tree.DataDesc.{DataDesc}
 use Rattle.sig_parser.specs.declared.tree.ConDesc.{ConDesc}
 use Rattle.sig_parser.specs.declared.point.Group.{Group}
 use Rattle.sig_parser.specs.declared.point.Group.TheVariants as group
-use Rattle.sig_parser.specs.Goals.{Goal, Level, Open}
-use Rattle.sig_parser.specs.Goals as goal
-use Rattle.sig_parser.specs.Heads.{Headed}
-use Rattle.sig_parser.specs.Heads as headed
-use Rattle.sig_parser.specs.Constructors.{Cons}
-use Rattle.sig_parser.specs.Constructors as cons
-use Rattle.sig_parser.specs.Owners.{Owner}
-use Rattle.sig_parser.specs.Owners as owner
+use Rattle.sig_parser.specs.machine.Goals.{Goal, Level, Open}
+use Rattle.sig_parser.specs.machine.Goals as goal
+use Rattle.sig_parser.specs.machine.Heads.{Headed}
+use Rattle.sig_parser.specs.machine.Heads as headed
+use Rattle.sig_parser.specs.machine.Constructors.{Cons}
+use Rattle.sig_parser.specs.machine.Constructors as cons
 use Rattle.sig_parser.specs.declared.point.Shared.{Shared}
-use Rattle.sig_parser.specs.declared.point.Shared.TheVariants as shared
-use Rattle.sig_parser.specs.Points.{Point}
-use Rattle.sig_parser.specs.Points as point
-use Rattle.sig_parser.specs.Machine.{State, At, bind, sig_of, open_name, description, datatype, con, shared_spec, with_spec, top_item, begin_spec, spec_item, item, behind_group, bound, want_id, leave, have_sig, two_names, have_name, after_where, have_part, next_binding, after_and, vals, types_, eqtypes, datatypes, type_tycon, replica, after_equals, want_con, constructors, exceptions, have_cons, have_con, includes, have_shared, step, ended, finish}
+use Rattle.sig_parser.specs.machine.Points.{Point}
+use Rattle.sig_parser.specs.machine.Points as point
+use Rattle.sig_parser.specs.machine.Machine.{At, bind, open_name, description, datatype, con, shared_spec, with_spec, top_item, begin_spec, spec_item, item, bound, want_id, have_sig, have_name, have_part, next_binding, after_and, vals, types_, eqtypes, datatypes, type_tycon, after_equals, want_con, constructors, exceptions, have_con, includes, have_shared, ended}
 use Rattle.sig_parser.proofs.Leads.{Covers, refused, have_sig_none}
 
 -- a group of bindings

@@ -1,24 +1,17 @@
 -- The machine counts what is open.
-use Rattle.std.proofs.Common.{◌≡◌, ℕ, ◌+◌, Bool, true, false, List, [], ◌∷◌, ◌++◌, length, Option, Some, None, refl, sym, ◌∙◌, subst, arith}
+use Rattle.std.proofs.Common.{◌≡◌, ℕ, ◌+◌, Bool, false, List, [], ◌∷◌, ◌++◌, length, Option, Some, None, refl, sym, ◌∙◌, subst, arith}
 use Rattle.std.specs.Prelude.{IsTrue, IfSome, if◌then◌else◌}
-use Rattle.sig_base.specs.declared.word.Word.{Word}
 use Rattle.sig_base.specs.declared.word.Word.TheVariants as w
 use Rattle.ty_parser.specs.declared.sort.Sort.{Sort}
 use Rattle.ty_parser.specs.declared.sort.Sort.TheVariants as s
 use Rattle.ty_parser.specs.declared.tree.TyExp.{TyExp}
 use Rattle.ty_parser.specs.declared.tree.TypeAt.{TypeAt}
-use Rattle.ty_parser.specs.Grammar.{Numbered, Ty}
 use Rattle.ty_parser.specs.Sorts.{is_vid, is_tycon, is_long_tycon, is_strid, is_long_strid}
-use Rattle.ty_parser.specs.Machine as types
-use Rattle.ty_parser.specs.Machine.{run}
-use Rattle.sig_parser.specs.declared.tree.SourceFile.{SourceFile}
+use Rattle.ty_parser.specs.machine.Machine as types
+use Rattle.ty_parser.specs.machine.Machine.{run}
 use Rattle.sig_parser.specs.declared.tree.TopDec.{TopDec}
-use Rattle.sig_parser.specs.declared.tree.TopDec.TheVariants as topdec
 use Rattle.sig_parser.specs.declared.tree.Bind.{Bind}
 use Rattle.sig_parser.specs.declared.tree.SigExp.{SigExp}
-use Rattle.sig_parser.specs.declared.tree.SigBase.{SigBase}
-use Rattle.sig_parser.specs.declared.tree.SigBase.TheVariants as base
-use Rattle.sig_parser.specs.declared.tree.WherePart.{WherePart}
 use Rattle.sig_parser.specs.declared.tree.Spec.{Spec}
 use Rattle.sig_parser.specs.declared.tree.Spec.TheVariants as spec
 use Rattle.sig_parser.specs.declared.tree.ValDesc.{ValDesc}
@@ -27,23 +20,23 @@ use Rattle.sig_parser.specs.declared.tree.DataDesc.{DataDesc}
 use Rattle.sig_parser.specs.declared.tree.ConDesc.{ConDesc}
 use Rattle.sig_parser.specs.declared.point.Group.{Group}
 use Rattle.sig_parser.specs.declared.point.Group.TheVariants as group
-use Rattle.sig_parser.specs.Goals.{Goal, Level, Open}
-use Rattle.sig_parser.specs.Goals as goal
-use Rattle.sig_parser.specs.Heads.{Headed}
-use Rattle.sig_parser.specs.Heads as headed
-use Rattle.sig_parser.specs.Constructors.{Cons}
-use Rattle.sig_parser.specs.Constructors as cons
-use Rattle.sig_parser.specs.Owners.{Owner}
-use Rattle.sig_parser.specs.Owners as owner
+use Rattle.sig_parser.specs.machine.Goals.{Goal, Level, Open}
+use Rattle.sig_parser.specs.machine.Goals as goal
+use Rattle.sig_parser.specs.machine.Heads.{Headed}
+use Rattle.sig_parser.specs.machine.Heads as headed
+use Rattle.sig_parser.specs.machine.Constructors.{Cons}
+use Rattle.sig_parser.specs.machine.Constructors as cons
+use Rattle.sig_parser.specs.machine.Owners.{Owner}
+use Rattle.sig_parser.specs.machine.Owners as owner
 use Rattle.sig_parser.specs.declared.point.Shared.{Shared}
 use Rattle.sig_parser.specs.declared.point.Shared.TheVariants as shared
-use Rattle.sig_parser.specs.Points.{Point}
-use Rattle.sig_parser.specs.Points as point
-use Rattle.ty_parser.specs.Machine.{Opened}
+use Rattle.sig_parser.specs.machine.Points.{Point}
+use Rattle.sig_parser.specs.machine.Points as point
+use Rattle.ty_parser.specs.machine.Machine.{Opened}
 use Rattle.ty_parser.specs.Phrases.{opens, closes}
 use Rattle.ty_parser.proofs.Types as type_depth
 use Rattle.sig_parser.specs.Grammar.{is_described_vid, name_of}
-use Rattle.sig_parser.specs.Machine.{State, At, InType, start, bind, sig_of, open_name, description, datatype, con, level, shared_spec, is_between, is_name, is_shared, with_spec, top_item, begin_spec, spec_item, item, behind_group, bound, want_id, have_id, begin_body, want_sig, leave, have_sig, two_names, have_name, after_where, have_part, next_binding, after_and, want_val, have_val, vals, types_, eqtypes, datatypes, begin_params, want_tycon, want_params, want_param, have_param, where_tycon, type_tycon, datatype_tycon, have_tycon, replica, after_equals, want_replica, want_con, constructors, exceptions, have_cons, have_con, includes, sharing_type, after_sharing, after_sharing_type, one_shared, want_shared, have_shared, begin_type, step_at, owned, behind_type, in_type, step, open_at, depth}
+use Rattle.sig_parser.specs.machine.Machine.{State, At, InType, start, sig_of, open_name, is_between, is_name, is_shared, with_spec, top_item, begin_spec, spec_item, item, behind_group, bound, want_id, have_id, begin_body, want_sig, leave, have_sig, two_names, have_name, after_where, have_part, next_binding, after_and, want_val, have_val, vals, types_, eqtypes, datatypes, begin_params, want_tycon, want_params, want_param, have_param, where_tycon, type_tycon, datatype_tycon, have_tycon, replica, after_equals, want_replica, want_con, constructors, exceptions, have_cons, have_con, includes, sharing_type, after_sharing, after_sharing_type, one_shared, want_shared, have_shared, begin_type, step_at, owned, behind_type, in_type, step, open_at, depth}
 use Rattle.sig_parser.proofs.Sound.{if_either}
 use Rattle.sig_parser.proofs.Closing.{length-with_spec}
 

@@ -1,8 +1,8 @@
 -- How many tokens are open in the state that a reading is in.
 use Rattle.std.proofs.Common.{◌≡◌, ℕ, ◌+◌, List, [], ◌∷◌, length, reverse, refl, ap, ◌∙◌, arith}
 use Rattle.std.proofs.lemmas.List.{length-reverse}
-use Rattle.ty_parser.specs.Machine as types
-use Rattle.ty_parser.specs.Machine.{before_last}
+use Rattle.ty_parser.specs.machine.Machine as types
+use Rattle.sig_base.specs.Stacks.{before_last}
 use Rattle.sig_parser.specs.declared.tree.Bind.{Bind}
 use Rattle.sig_parser.specs.declared.tree.Spec.{Spec}
 use Rattle.sig_parser.specs.declared.point.Level as held
@@ -10,8 +10,8 @@ use Rattle.sig_parser.specs.declared.point.Owner as the_owner
 use Rattle.sig_parser.specs.declared.point.Point as the_point
 use Rattle.sig_parser.specs.declared.point.Point.TheVariants as points
 use Rattle.sig_parser.specs.declared.point.Reading.{Reading}
-use Rattle.sig_parser.specs.Machine.{depth, open_at}
-use Rattle.sig_parser.specs.Views.{levels_of, levels_over, before_goal, before_headed, before_owner, state_at, state_of, parens_at}
+use Rattle.sig_parser.specs.machine.Machine.{depth, open_at}
+use Rattle.sig_parser.specs.machine.Views.{levels_of, levels_over, before_goal, before_headed, before_owner, state_at, state_of, parens_at}
 
 -- as many bodies are open as are held
 pub bodies_length : (ls : List held.Level) (xs : List Spec) (bs : List Bind) → length (levels_of ls xs bs) ≡ length ls

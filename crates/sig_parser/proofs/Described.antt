@@ -1,48 +1,34 @@
 -- What the grammar of files has, the machine reads.
-use Rattle.std.proofs.Common.{◌≡◌, ℕ, Bool, true, false, List, [], ◌∷◌, ◌++◌, Option, Some, None, refl, ap, sym, ◌∙◌}
-use Rattle.std.specs.Prelude.{IsTrue, option_and_then, if◌then◌else◌}
-use Rattle.sig_base.specs.declared.word.Word.{Word}
+use Rattle.std.proofs.Common.{◌≡◌, ℕ, Bool, List, [], ◌∷◌, ◌++◌, Option, Some, None, refl, ap, ◌∙◌}
+use Rattle.std.specs.Prelude.{IsTrue, if◌then◌else◌}
 use Rattle.sig_base.specs.declared.word.Word.TheVariants as w
 use Rattle.ty_parser.specs.declared.sort.Sort.{Sort}
 use Rattle.ty_parser.specs.declared.sort.Sort.TheVariants as s
-use Rattle.ty_parser.specs.declared.tree.TyExp.{TyExp}
-use Rattle.ty_parser.specs.declared.tree.TypeAt.{TypeAt}
-use Rattle.ty_parser.specs.Grammar.{Numbered, Ty}
-use Rattle.ty_parser.specs.Sorts.{is_vid, is_tycon, is_long_tycon, is_strid, is_long_strid}
-use Rattle.ty_parser.specs.Machine as types
-use Rattle.ty_parser.specs.Machine.{run}
-use Rattle.sig_parser.specs.declared.tree.SourceFile.{SourceFile}
+use Rattle.ty_parser.specs.Grammar.{Numbered}
+use Rattle.ty_parser.specs.Sorts.{is_vid, is_strid}
 use Rattle.sig_parser.specs.declared.tree.TopDec.{TopDec}
-use Rattle.sig_parser.specs.declared.tree.TopDec.TheVariants as topdec
-use Rattle.sig_parser.specs.declared.tree.Bind.{Bind}
 use Rattle.sig_parser.specs.declared.tree.SigExp.{SigExp}
 use Rattle.sig_parser.specs.declared.tree.SigBase.{SigBase}
-use Rattle.sig_parser.specs.declared.tree.SigBase.TheVariants as base
 use Rattle.sig_parser.specs.declared.tree.WherePart.{WherePart}
-use Rattle.sig_parser.specs.declared.tree.Spec.{Spec}
-use Rattle.sig_parser.specs.declared.tree.Spec.TheVariants as spec
 use Rattle.sig_parser.specs.declared.tree.ValDesc.{ValDesc}
 use Rattle.sig_parser.specs.declared.tree.TypeDesc.{TypeDesc}
 use Rattle.sig_parser.specs.declared.tree.DataDesc.{DataDesc}
 use Rattle.sig_parser.specs.declared.tree.ConDesc.{ConDesc}
-use Rattle.sig_parser.specs.declared.point.Group.{Group}
-use Rattle.sig_parser.specs.declared.point.Group.TheVariants as group
-use Rattle.sig_parser.specs.Goals.{Goal, Level, Open}
-use Rattle.sig_parser.specs.Goals as goal
-use Rattle.sig_parser.specs.Heads.{Headed}
-use Rattle.sig_parser.specs.Heads as headed
-use Rattle.sig_parser.specs.Constructors.{Cons}
-use Rattle.sig_parser.specs.Constructors as cons
-use Rattle.sig_parser.specs.Owners.{Owner}
-use Rattle.sig_parser.specs.Owners as owner
+use Rattle.sig_parser.specs.machine.Goals.{Goal, Level, Open}
+use Rattle.sig_parser.specs.machine.Goals as goal
+use Rattle.sig_parser.specs.machine.Heads.{Headed}
+use Rattle.sig_parser.specs.machine.Heads as headed
+use Rattle.sig_parser.specs.machine.Constructors.{Cons}
+use Rattle.sig_parser.specs.machine.Constructors as cons
+use Rattle.sig_parser.specs.machine.Owners.{Owner}
+use Rattle.sig_parser.specs.machine.Owners as owner
 use Rattle.sig_parser.specs.declared.point.Shared.{Shared}
-use Rattle.sig_parser.specs.declared.point.Shared.TheVariants as shared
-use Rattle.sig_parser.specs.Points.{Point}
-use Rattle.sig_parser.specs.Points as point
+use Rattle.sig_parser.specs.machine.Points.{Point}
+use Rattle.sig_parser.specs.machine.Points as point
 use Rattle.sig_parser.specs.Grammar as grammar
-use Rattle.sig_parser.specs.Grammar.{is_described_vid, Separated, Named, TyVar, tyvar, TyVarSeq, no_variables, variable, variables, Value, Constructor, constructor, Abbreviation, without_type, with_type, Con, constant, carrying, DatDesc, datdesc, Part, part, Wheres, no_parts, parts, Parts, by_where, by_and, name_of, Names, two_names, more_names, Equated, equated}
-use Rattle.sig_parser.specs.Machine as machine
-use Rattle.sig_parser.specs.Machine.{State, At, description, datatype, con, is_name, is_shared, begin_body, want_sig, have_sig, have_name, after_where, have_part, after_and, want_val, have_val, vals, types_, eqtypes, datatypes, begin_params, want_tycon, want_params, want_param, have_param, where_tycon, type_tycon, datatype_tycon, want_con, constructors, exceptions, have_con, includes, one_shared, want_shared, have_shared, step}
+use Rattle.sig_parser.specs.Grammar.{is_described_vid, Separated, Named, TyVar, tyvar, TyVarSeq, no_variables, variable, variables, ValueDescription, TypeDescription, constructor, TypeAbbreviation, without_type, with_type, ConstructorDescription, constant, carrying, DatatypeDescription, datdesc, TypeRealization, part, Realizations, no_parts, parts, SomeRealizations, by_where, by_and, name_of, SignatureNames, two_names, more_names, Equated, equated}
+use Rattle.sig_parser.specs.machine.Machine as machine
+use Rattle.sig_parser.specs.machine.Machine.{State, At, description, datatype, con, is_name, is_shared, begin_body, want_sig, have_sig, have_name, after_where, have_part, after_and, want_val, have_val, vals, types_, eqtypes, datatypes, begin_params, want_tycon, want_params, want_param, have_param, where_tycon, type_tycon, datatype_tycon, want_con, constructors, exceptions, have_con, includes, one_shared, want_shared, have_shared, step}
 use Rattle.sig_parser.proofs.Leads.{Leads, step_leads, separated_leads, typed_leads}
 use Rattle.sig_parser.proofs.Covers.{type_tycon_covers, eqtype_tycon_covers, equals_covers, con_covers, constructors_cover, with_goal, part_covers}
 
@@ -86,17 +72,17 @@ module _ (decs : List TopDec) (ls : List Level) where
       (tycon_leads h vs i so r named f x))
 
   -- vid : ty
-  pub value_leads : (ds : List ValDesc) (ts r : List Numbered) (d : ValDesc) → Value ts r d → Leads (At decs ls (point.WantVal ds)) ts (At decs ls (point.Vals (ds ++ d ∷ []))) r
+  pub value_leads : (ds : List ValDesc) (ts r : List Numbered) (d : ValDesc) → ValueDescription ts r d → Leads (At decs ls (point.WantVal ds)) ts (At decs ls (point.Vals (ds ++ d ∷ []))) r
   unfolding want_val have_val
   value_leads ds ts r d (grammar.value {i = i} {c = c} {so = so} {ts = m} vid t) f h =
       accepted (At decs ls (point.WantVal ds)) (At decs ls (point.HaveVal ds i)) (is_described_vid so) None (i, so) ((c, s.Reserved w.KwColon) ∷ m) refl vid f (typed_leads decs ls (owner.Val ds i) t f h)
 
   -- type tyvarseq longtycon = ty, behind `where` or `and`
-  pub part_leads : {at : ℕ} {m r : List Numbered} {p : WherePart} (o : Open) → Part at m r p → Leads (At decs ls (point.AfterWhere o at)) m (At decs ls (point.HavePart (machine.with_part o p))) r
+  pub part_leads : {at : ℕ} {m r : List Numbered} {p : WherePart} (o : Open) → TypeRealization at m r p → Leads (At decs ls (point.AfterWhere o at)) m (At decs ls (point.HavePart (machine.with_part o p))) r
   unfolding after_where where_tycon
   part_leads o (part {at = at} {i = i} {vs = vs} d named t) f h = params_leads (headed.Where o at) d named f (typed_leads decs ls (owner.Where o at vs i) t f h)
 
-  next_part_leads : {at : ℕ} {m r : List Numbered} {p : WherePart} (o : Open) → Part at m r p → Leads (At decs ls (point.AfterAnd o at)) m (At decs ls (point.HavePart (machine.with_part o p))) r
+  next_part_leads : {at : ℕ} {m r : List Numbered} {p : WherePart} (o : Open) → TypeRealization at m r p → Leads (At decs ls (point.AfterAnd o at)) m (At decs ls (point.HavePart (machine.with_part o p))) r
   unfolding after_and after_where where_tycon
   next_part_leads o (part {at = at} {i = i} {vs = vs} d named t) f h = params_leads (headed.Where o at) d named f (typed_leads decs ls (owner.Where o at vs i) t f h)
 
@@ -104,11 +90,11 @@ module _ (decs : List TopDec) (ls : List Level) where
     unfolding have_sig have_part
 
     -- {where part {and part}}
-    pub wheres_lead : {ts r : List Numbered} {ps : List WherePart} (first : ℕ) (b : SigBase) (g : Goal) → Wheres ts r ps → Leads (At decs ls (point.HaveSig (with_goal first b [] g))) ts (At decs ls (point.HaveSig (with_goal first b ps g))) r
+    pub wheres_lead : {ts r : List Numbered} {ps : List WherePart} (first : ℕ) (b : SigBase) (g : Goal) → Realizations ts r ps → Leads (At decs ls (point.HaveSig (with_goal first b [] g))) ts (At decs ls (point.HaveSig (with_goal first b ps g))) r
     wheres_lead first b g no_parts f h = h
     wheres_lead {r = r} {ps = ps} first b g (parts d) f h = parts_lead first b g d f (part_covers first b ps decs ls g r f h)
 
-    pub parts_lead : {ts r : List Numbered} {ps : List WherePart} (first : ℕ) (b : SigBase) (g : Goal) → Parts ts r ps → Leads (At decs ls (point.HaveSig (with_goal first b [] g))) ts (At decs ls (point.HavePart (with_goal first b ps g))) r
+    pub parts_lead : {ts r : List Numbered} {ps : List WherePart} (first : ℕ) (b : SigBase) (g : Goal) → SomeRealizations ts r ps → Leads (At decs ls (point.HaveSig (with_goal first b [] g))) ts (At decs ls (point.HavePart (with_goal first b ps g))) r
     parts_lead first b g (by_where {ps = ps} d p) f h = wheres_lead first b g d f (part_leads (with_goal first b ps g) p f h)
     parts_lead first b g (by_and {ps = ps} d p) f h = parts_lead first b g d f (next_part_leads (with_goal first b ps g) p f h)
 
@@ -118,17 +104,17 @@ module _ (decs : List TopDec) (l : Level) (ls : List Level) where
   at p = At decs (l ∷ ls) p
 
   -- tyvarseq tycon [= ty]
-  pub abbreviation_leads : (ds : List TypeDesc) (ts r : List Numbered) (d : TypeDesc) → Abbreviation ts r d → Leads (at (point.WantParams (headed.Abbrev ds))) ts (at (point.Types (ds ++ d ∷ []))) r
+  pub abbreviation_leads : (ds : List TypeDesc) (ts r : List Numbered) (d : TypeDesc) → TypeAbbreviation ts r d → Leads (at (point.WantParams (headed.Abbrev ds))) ts (at (point.Types (ds ++ d ∷ []))) r
   unfolding type_tycon
   abbreviation_leads ds ts r d (without_type {i = i} {vs = vs} p named) f h = params_leads decs (l ∷ ls) (headed.Abbrev ds) p named f (type_tycon_covers decs l ls ds vs i r f h)
   abbreviation_leads ds ts r d (with_type {i = i} {vs = vs} p named t) f h = params_leads decs (l ∷ ls) (headed.Abbrev ds) p named f (typed_leads decs (l ∷ ls) (owner.Abbrev ds vs i) t f h)
 
   -- tyvarseq tycon
-  pub constructor_leads : (ds : List TypeDesc) (ts r : List Numbered) (d : TypeDesc) → Constructor ts r d → Leads (at (point.WantParams (headed.Eqtype ds))) ts (at (point.Eqtypes (ds ++ d ∷ []))) r
+  pub constructor_leads : (ds : List TypeDesc) (ts r : List Numbered) (d : TypeDesc) → TypeDescription ts r d → Leads (at (point.WantParams (headed.Eqtype ds))) ts (at (point.Eqtypes (ds ++ d ∷ []))) r
   constructor_leads ds ts r d (constructor {i = i} {vs = vs} p named) f h = params_leads decs (l ∷ ls) (headed.Eqtype ds) p named f (eqtype_tycon_covers decs l ls ds vs i r f h)
 
   -- vid [of ty]
-  pub con_leads : (c : Cons) (cs : List ConDesc) (ts r : List Numbered) (d : ConDesc) → Con ts r d → Leads (at (point.WantCon c cs)) ts (at (point.HaveCons c (cs ++ d ∷ []))) r
+  pub con_leads : (c : Cons) (cs : List ConDesc) (ts r : List Numbered) (d : ConDesc) → ConstructorDescription ts r d → Leads (at (point.WantCon c cs)) ts (at (point.HaveCons c (cs ++ d ∷ []))) r
   unfolding want_con have_con
   con_leads c cs ts r d (constant {i = i} {so = so} vid) f h =
       accepted (at (point.WantCon c cs)) (at (point.HaveCon c cs i)) (is_vid so) None (i, so) r refl vid f (con_covers decs l ls c cs i r f h)
@@ -136,16 +122,16 @@ module _ (decs : List TopDec) (l : Level) (ls : List Level) where
       accepted (at (point.WantCon c cs)) (at (point.HaveCon c cs i)) (is_vid so) None (i, so) ((o, s.Reserved w.KwOf) ∷ m) refl vid f (typed_leads decs (l ∷ ls) (owner.Con c cs i) t f h)
 
   -- tyvarseq tycon = vid [of ty] {| vid [of ty]}
-  pub datdesc_leads : (ds : List DataDesc) (ts r : List Numbered) (d : DataDesc) → DatDesc ts r d → Leads (at (point.WantParams (headed.Datatype ds))) ts (at (point.Datatypes (ds ++ d ∷ []))) r
+  pub datdesc_leads : (ds : List DataDesc) (ts r : List Numbered) (d : DataDesc) → DatatypeDescription ts r d → Leads (at (point.WantParams (headed.Datatype ds))) ts (at (point.Datatypes (ds ++ d ∷ []))) r
   unfolding datatype_tycon constructors
   datdesc_leads ds ts r d (datdesc {i = i} {m = m} {vs = vs} {cs = cs} p named c) f h =
       params_leads decs (l ∷ ls) (headed.Datatype ds) p named f
       (equals_covers decs l ls ds vs i m f
-      (separated_leads w.KwBar Con (λ cs. at (point.WantCon (cons.Datatype ds vs i) cs)) (λ cs. at (point.HaveCons (cons.Datatype ds vs i) cs)) (con_leads (cons.Datatype ds vs i)) (λ cs j m f h. h) c f
+      (separated_leads w.KwBar ConstructorDescription (λ cs. at (point.WantCon (cons.Datatype ds vs i) cs)) (λ cs. at (point.HaveCons (cons.Datatype ds vs i) cs)) (con_leads (cons.Datatype ds vs i)) (λ cs j m f h. h) c f
       (constructors_cover decs l ls ds vs i cs r f h)))
 
   -- sigid sigid {sigid}
-  pub names_lead : {ts r : List Numbered} {gs : List SigExp} → Names ts r gs → Leads (at (point.WantSig goal.Including)) ts (at (point.Includes gs)) r
+  pub names_lead : {ts r : List Numbered} {gs : List SigExp} → SignatureNames ts r gs → Leads (at (point.WantSig goal.Including)) ts (at (point.Includes gs)) r
   unfolding want_sig have_name machine.two_names includes
   names_lead {r = r} (two_names {i = i} {j = j} {so = so} {ro = ro} one two) f h =
       accepted (at (point.WantSig goal.Including)) (at (point.HaveName goal.Including i)) (is_strid so) _ (i, so) ((j, ro) ∷ r) refl one f

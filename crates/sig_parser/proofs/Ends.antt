@@ -5,8 +5,8 @@ use Rattle.std.specs.Option.{option_map}
 use Rattle.std.proofs.lemmas.List.{reverse-reverse}
 use Rattle.sig_base.specs.declared.no_memory.NoMemory.{NoMemory}
 use Rattle.ty_parser.specs.declared.tree.TyExp.{TyExp}
-use Rattle.ty_parser.specs.Machine as types
-use Rattle.ty_parser.specs.Machine.{taken}
+use Rattle.ty_parser.specs.machine.Machine as types
+use Rattle.ty_parser.specs.machine.Machine.{taken}
 use Rattle.sig_parser.specs.declared.tree.SourceFile.{SourceFile}
 use Rattle.sig_parser.specs.declared.tree.TopDec.{TopDec}
 use Rattle.sig_parser.specs.declared.tree.Bind.{Bind}
@@ -15,10 +15,10 @@ use Rattle.sig_parser.specs.declared.point.Level as held
 use Rattle.sig_parser.specs.declared.point.Point as the_point
 use Rattle.sig_parser.specs.declared.point.Point.TheVariants as points
 use Rattle.sig_parser.specs.declared.point.Reading.{Reading}
-use Rattle.sig_parser.specs.Goals.{Level}
-use Rattle.sig_parser.specs.Owners.{Owner}
-use Rattle.sig_parser.specs.Machine.{State, At, InType, owned, ended, ended_type, finish}
-use Rattle.sig_parser.specs.Views.{levels_of, levels_over, state_at, type_ended, ended_outside}
+use Rattle.sig_parser.specs.machine.Goals.{Level}
+use Rattle.sig_parser.specs.machine.Owners.{Owner}
+use Rattle.sig_parser.specs.machine.Machine.{State, At, InType, owned, ended_type, finish}
+use Rattle.sig_parser.specs.machine.Views.{levels_of, levels_over, state_at, type_ended, ended_outside}
 
 -- the bodies that are not ended
 abbrev pub bodies : State → List Level

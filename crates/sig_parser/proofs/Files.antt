@@ -1,10 +1,9 @@
 -- The machine of files reads their grammar.
-use Rattle.std.proofs.Common.{List}
 use Rattle.std.specs.List.{enumerate_from}
 use Rattle.ty_parser.proofs.Viable.{Reading}
 use Rattle.sig_parser.specs.declared.tree.SourceFile.{SourceFile}
 use Rattle.sig_parser.specs.Files.{File}
-use Rattle.sig_parser.specs.Machine.{State, start, step, finish, depth}
+use Rattle.sig_parser.specs.machine.Machine.{State, start, step, finish, depth}
 use Rattle.sig_parser.proofs.Complete.{parse_complete}
 use Rattle.sig_parser.proofs.Sound.{parse_sound}
 use Rattle.sig_parser.proofs.Closing.{completes}

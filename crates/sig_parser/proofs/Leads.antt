@@ -1,45 +1,34 @@
 -- What one state makes of tokens, another makes of more of them.
 use Rattle.std.proofs.Common.{◌≡◌, ℕ, Bool, true, false, List, [], ◌∷◌, ◌++◌, Option, Some, None, refl, ap, ◌∙◌}
-use Rattle.std.specs.Prelude.{option_and_then, if◌then◌else◌}
+use Rattle.std.specs.Prelude.{option_and_then}
 use Rattle.sig_base.specs.declared.word.Word.{Word}
 use Rattle.sig_base.specs.declared.word.Word.TheVariants as w
 use Rattle.ty_parser.specs.declared.sort.Sort.{Sort}
 use Rattle.ty_parser.specs.declared.sort.Sort.TheVariants as s
 use Rattle.ty_parser.specs.declared.tree.TyExp.{TyExp}
 use Rattle.ty_parser.specs.declared.tree.TypeAt.{TypeAt}
-use Rattle.ty_parser.specs.Grammar.{Numbered, Ty}
-use Rattle.ty_parser.specs.Sorts.{is_vid, is_tycon, is_long_tycon, is_strid, is_long_strid}
-use Rattle.ty_parser.specs.Machine as types
-use Rattle.ty_parser.specs.Machine.{run}
+use Rattle.ty_parser.specs.Grammar.{Numbered}
+use Rattle.ty_parser.specs.machine.Machine as types
+use Rattle.ty_parser.specs.machine.Machine.{run}
 use Rattle.sig_parser.specs.declared.tree.SourceFile.{SourceFile}
 use Rattle.sig_parser.specs.declared.tree.TopDec.{TopDec}
-use Rattle.sig_parser.specs.declared.tree.TopDec.TheVariants as topdec
 use Rattle.sig_parser.specs.declared.tree.Bind.{Bind}
 use Rattle.sig_parser.specs.declared.tree.SigExp.{SigExp}
-use Rattle.sig_parser.specs.declared.tree.SigBase.{SigBase}
-use Rattle.sig_parser.specs.declared.tree.SigBase.TheVariants as base
-use Rattle.sig_parser.specs.declared.tree.WherePart.{WherePart}
-use Rattle.sig_parser.specs.declared.tree.Spec.{Spec}
-use Rattle.sig_parser.specs.declared.tree.Spec.TheVariants as spec
 use Rattle.sig_parser.specs.declared.tree.ValDesc.{ValDesc}
 use Rattle.sig_parser.specs.declared.tree.TypeDesc.{TypeDesc}
 use Rattle.sig_parser.specs.declared.tree.DataDesc.{DataDesc}
 use Rattle.sig_parser.specs.declared.tree.ConDesc.{ConDesc}
 use Rattle.sig_parser.specs.declared.point.Group.{Group}
 use Rattle.sig_parser.specs.declared.point.Group.TheVariants as group
-use Rattle.sig_parser.specs.Goals.{Goal, Level, Open}
-use Rattle.sig_parser.specs.Goals as goal
-use Rattle.sig_parser.specs.Heads.{Headed}
-use Rattle.sig_parser.specs.Heads as headed
-use Rattle.sig_parser.specs.Constructors.{Cons}
-use Rattle.sig_parser.specs.Constructors as cons
-use Rattle.sig_parser.specs.Owners.{Owner}
-use Rattle.sig_parser.specs.Owners as owner
-use Rattle.sig_parser.specs.declared.point.Shared.{Shared}
-use Rattle.sig_parser.specs.declared.point.Shared.TheVariants as shared
-use Rattle.sig_parser.specs.Points.{Point}
-use Rattle.sig_parser.specs.Points as point
-use Rattle.sig_parser.specs.Machine.{State, At, InType, sig_of, with_spec, top_item, begin_spec, spec_item, item, behind_group, bound, leave, have_sig, have_part, vals, types_, datatypes, constructors, exceptions, have_cons, step_at, owned, begin_type, behind_type, in_type, step, ended_type, finish}
+use Rattle.sig_parser.specs.machine.Goals.{Goal, Level, Open}
+use Rattle.sig_parser.specs.machine.Goals as goal
+use Rattle.sig_parser.specs.machine.Constructors.{Cons}
+use Rattle.sig_parser.specs.machine.Constructors as cons
+use Rattle.sig_parser.specs.machine.Owners.{Owner}
+use Rattle.sig_parser.specs.machine.Owners as owner
+use Rattle.sig_parser.specs.machine.Points.{Point}
+use Rattle.sig_parser.specs.machine.Points as point
+use Rattle.sig_parser.specs.machine.Machine.{State, At, InType, sig_of, top_item, begin_spec, spec_item, item, behind_group, bound, leave, have_sig, have_part, vals, types_, datatypes, constructors, exceptions, have_cons, step_at, owned, begin_type, behind_type, in_type, step, ended_type, finish}
 use Rattle.sig_parser.specs.Grammar.{Typed, typed, Separated, one, more}
 use Rattle.ty_parser.proofs.Complete as type_steps
 use Rattle.ty_parser.proofs.Complete.{Steps, here, steps-run_within, type_read}

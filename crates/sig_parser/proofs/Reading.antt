@@ -1,5 +1,5 @@
 -- Reading a file: the invariant of the loop, and what each way on or out gives.
-use Rattle.std.proofs.Common.{◌≡◌, ℕ, ◌+◌, ◌<◌, ◌≤◌, Bool, true, false, List, [], length, get_or, reverse, Option, Some, None, Result, Ok, Err, refl, ap, sym, ◌∙◌, subst, arith, inl, inr}
+use Rattle.std.proofs.Common.{◌≡◌, ℕ, ◌+◌, ◌<◌, ◌≤◌, Bool, true, false, List, length, get_or, Option, Some, None, Result, Ok, Err, refl, ap, sym, ◌∙◌, subst, arith}
 use Rattle.std.specs.Prelude.{◌⊎◌, IfOk, IfErr}
 use Rattle.std.proofs.lemmas.List.{get_or-map, length-map}
 use Rattle.sml_lexer.specs.declared.token.Token.{Token}
@@ -8,15 +8,16 @@ use Rattle.ty_parser.specs.declared.sort.Sort.TheVariants as s
 use Rattle.ty_parser.specs.declared.tree.ParseRefusal.{ParseRefusal}
 use Rattle.ty_parser.specs.declared.tree.ParseRefusal.TheVariants as refusal
 use Rattle.ty_parser.specs.Sorts.{sort_of, sorts_of}
-use Rattle.ty_parser.specs.Phrases.{StopsAt, TooDeepAt, IsShallow, Refuses, most_open, opens, closes}
+use Rattle.ty_parser.specs.Phrases.{StopsAt, TooDeepAt, IsShallow, Refuses, Tells, most_open, opens, closes}
 use Rattle.ty_parser.proofs.Runs.{of_some}
-use Rattle.ty_parser.proofs.Stops.{one_stop, one_depth, no_depth, deep_within}
+use Rattle.ty_parser.proofs.Outcomes as outcomes
+use Rattle.ty_parser.proofs.Outcomes.{Gives, gives_tokens, shallow_sorts}
 use Rattle.ty_parser.proofs.Viable.{ReadTo, opens_one, start_read, step_read, step_deep, step_stops, end_stops, end_found, one_tree}
 use Rattle.sig_parser.specs.declared.tree.SourceFile.{SourceFile}
 use Rattle.sig_parser.specs.Files.{File}
-use Rattle.ty_parser.specs.Machine.{taken}
-use Rattle.sig_parser.specs.Machine as machine
-use Rattle.sig_parser.specs.Machine.{State, start, step, finish, depth}
+use Rattle.ty_parser.specs.machine.Machine.{taken}
+use Rattle.sig_parser.specs.machine.Machine as machine
+use Rattle.sig_parser.specs.machine.Machine.{State, start, step, finish, depth}
 use Rattle.sig_parser.proofs.Depth.{step_depth}
 use Rattle.sig_parser.proofs.Files.{files}
 
@@ -85,7 +86,7 @@ module _ (st : State) (i : ℕ) (so : Sort) (st' : State) (can : Bool) (e : take
   pub step_some : can ≡ true → Some st' ≡ step st (i, so)
   step_some h = sym (ap (λ can. taken can st') h) ∙ e
 
-  pub step_too_deep : can ≡ true → most_open < depth st' → machine.Refuses st i so (refusal.TooDeep i)
+  pub step_too_deep : can ≡ true → most_open < depth st' → machine.Tells st i so (refusal.TooDeep i)
   step_too_deep h high = (refl, st', sym (step_some h), high)
 
 pub read_low : (bytes : List ℕ) (ts : List Token) (i : ℕ) (st : State) → FileRead bytes ts i st → depth st ≤ most_open
@@ -93,7 +94,7 @@ read_low bytes ts i st to = let low = to.read.low in omega (arith, low)
 
 -- what one step gives
 module _ (bytes : List ℕ) (ts : List Token) (i : ℕ) (st : State) (d : Token) (so : Sort) (to : FileRead bytes ts i st) (lt : i < length ts) (is : so ≡ sort_of bytes (get_or ts i d)) where
-  refused_by : (e : ParseRefusal) → machine.Refuses st i so e → Refuses File (sorts_of bytes ts) e
+  refused_by : (e : ParseRefusal) → machine.Tells st i so e → Tells File (sorts_of bytes ts) e
   refused_by (refusal.Syntax k) h =
       let P : ℕ → Type 0 = λ k. StopsAt File (sorts_of bytes ts) k × IsShallow File 0 (sorts_of bytes ts) k in
       subst P (sym h.0) (file_stops bytes ts i st d so to lt is h.1)
@@ -102,9 +103,9 @@ module _ (bytes : List ℕ) (ts : List Token) (i : ℕ) (st : State) (d : Token)
       subst P (sym h.0) (file_deep bytes ts i st d so to lt is h.1 (sym h.2) h.3)
   refused_by refusal.NoMemory h = tt
 
-  pub file_refused : (r : Result SourceFile ParseRefusal) (e f : ParseRefusal) → machine.Refuses st i so e → r ≡ Err f → f ≡ e → IfErr r (λ e. Refuses File (sorts_of bytes ts) e)
+  pub file_refused : (r : Result SourceFile ParseRefusal) (e f : ParseRefusal) → machine.Tells st i so e → r ≡ Err f → f ≡ e → IfErr r (λ e. Tells File (sorts_of bytes ts) e)
   file_refused r e f h refused same =
-      let P : Result SourceFile ParseRefusal → Type 0 = λ r. IfErr r (λ e. Refuses File (sorts_of bytes ts) e) in
+      let P : Result SourceFile ParseRefusal → Type 0 = λ r. IfErr r (λ e. Tells File (sorts_of bytes ts) e) in
       subst P (sym (refused ∙ ap Err same)) (refused_by e h)
 
   pub file_next : (st' : State) → step st (i, so) ≡ Some st' → depth st' ≤ most_open → FileRead bytes ts (i + 1) st'
@@ -112,7 +113,7 @@ module _ (bytes : List ℕ) (ts : List Token) (i : ℕ) (st : State) (d : Token)
 
 -- what the end gives
 module _ (bytes : List ℕ) (ts : List Token) (i : ℕ) (st : State) (to : FileRead bytes ts i st) (e : i ≡ length ts) where
-  end_refused_by : (r : ParseRefusal) → machine.RefusesEnd st i r → Refuses File (sorts_of bytes ts) r
+  end_refused_by : (r : ParseRefusal) → machine.TellsEnd st i r → Tells File (sorts_of bytes ts) r
   end_refused_by (refusal.Syntax k) h =
       let P : ℕ → Type 0 = λ k. StopsAt File (sorts_of bytes ts) k × IsShallow File 0 (sorts_of bytes ts) k in
       subst P (sym h.0) (file_ends bytes ts i st to e h.1)
@@ -127,42 +128,25 @@ module _ (bytes : List ℕ) (ts : List Token) (i : ℕ) (st : State) (to : FileR
   end_shallow (Ok f) h = (file_found bytes ts i st to e f h).1
   end_shallow (Err r) h = tt
 
-  pub end_refused : (r : Result SourceFile ParseRefusal) → IfErr r (λ r. machine.RefusesEnd st i r) → IfErr r (λ r. Refuses File (sorts_of bytes ts) r)
+  pub end_refused : (r : Result SourceFile ParseRefusal) → IfErr r (λ r. machine.TellsEnd st i r) → IfErr r (λ r. Tells File (sorts_of bytes ts) r)
   end_refused (Ok f) h = tt
   end_refused (Err r) h = end_refused_by r h
 
 -- what reading gives is the one thing that it can give
-module _ (bytes : List ℕ) (ts : List Token) (r : Result SourceFile ParseRefusal) (tree : IfOk r (λ f. File (sorts_of bytes ts) f)) (shallow : IfOk r (λ _. IsShallow File 0 (sorts_of bytes ts) (length ts))) (refused : IfErr r (λ e. Refuses File (sorts_of bytes ts) e)) where
-  abbrev ss : List Sort
-  ss = sorts_of bytes ts
+module _ (bytes : List ℕ) (ts : List Token) (r : Result SourceFile ParseRefusal)
+    (tree : IfOk r (λ f. File (sorts_of bytes ts) f)) (shallow : IfOk r (λ _. IsShallow File 0 (sorts_of bytes ts) (length ts)))
+    (refused : IfErr r (λ e. Tells File (sorts_of bytes ts) e)) where
+  gives : Gives File (λ f. f) (sorts_of bytes ts) r
+  gives = gives_tokens File (λ f. f) bytes ts r tree shallow refused
 
-  pub only_tree : (f : SourceFile) → File ss f → IsShallow File 0 ss (length ts) → (r ≡ Ok f) ⊎ (r ≡ Err refusal.NoMemory)
-  only_tree f d low = by_result r tree refused
+  pub only_tree : (f : SourceFile) → File (sorts_of bytes ts) f → IsShallow File 0 (sorts_of bytes ts) (length ts)
+      → (r ≡ Ok f) ⊎ (r ≡ Err refusal.NoMemory)
+  only_tree f d low =
+      outcomes.only_tree File (λ f. f) (sorts_of bytes ts) (one_tree files (sorts_of bytes ts)) (λ f. f) r (itself r) gives f d (shallow_sorts File bytes ts low)
     where
-      by_result : (r : Result SourceFile ParseRefusal) → IfOk r (λ f. File ss f) → IfErr r (λ e. Refuses File ss e) → (r ≡ Ok f) ⊎ (r ≡ Err refusal.NoMemory)
-      by_result (Ok g) h k = inl (ap Ok (one_tree files ss g f h d))
-      by_result (Err (refusal.Syntax k)) h e = absurd (e.0.no_phrase f d)
-      by_result (Err (refusal.TooDeep k)) h e =
-          let within : k < length ts = omega (arith, deep_within File ss 0 k e.0, length-map ts (sort_of bytes)) in
-          absurd (low k within e.0)
-      by_result (Err refusal.NoMemory) h e = inr refl
+      itself : (r : Result SourceFile ParseRefusal) → IfOk r (λ f. f ≡ f)
+      itself (Ok f) = refl
+      itself (Err e) = tt
 
-  pub only_syntax : (k : ℕ) → StopsAt File ss k → IsShallow File 0 ss k → (r ≡ Err (refusal.Syntax k)) ⊎ (r ≡ Err refusal.NoMemory)
-  only_syntax k stops low = by_result r tree refused
-    where
-      by_result : (r : Result SourceFile ParseRefusal) → IfOk r (λ f. File ss f) → IfErr r (λ e. Refuses File ss e) → (r ≡ Err (refusal.Syntax k)) ⊎ (r ≡ Err refusal.NoMemory)
-      by_result (Ok g) h e = absurd (stops.no_phrase g h)
-      by_result (Err (refusal.Syntax j)) h e = inl (ap (λ n. Err (refusal.Syntax n)) (one_stop File ss j k e.0 stops))
-      by_result (Err (refusal.TooDeep j)) h e = absurd (no_depth File ss 0 k j stops.reaches low e.0)
-      by_result (Err refusal.NoMemory) h e = inr refl
-
-  pub only_too_deep : (k : ℕ) → TooDeepAt File 0 ss k → IsShallow File 0 ss k → (r ≡ Err (refusal.TooDeep k)) ⊎ (r ≡ Err refusal.NoMemory)
-  only_too_deep k deep low = by_result r tree shallow refused
-    where
-      by_result : (r : Result SourceFile ParseRefusal) → IfOk r (λ f. File ss f) → IfOk r (λ _. IsShallow File 0 ss (length ts)) → IfErr r (λ e. Refuses File ss e) → (r ≡ Err (refusal.TooDeep k)) ⊎ (r ≡ Err refusal.NoMemory)
-      by_result (Ok g) h all e =
-          let within : k < length ts = omega (arith, deep_within File ss 0 k deep, length-map ts (sort_of bytes)) in
-          absurd (all k within deep)
-      by_result (Err (refusal.Syntax j)) h all e = absurd (no_depth File ss 0 j k e.0.reaches e.1 deep)
-      by_result (Err (refusal.TooDeep j)) h all e = inl (ap (λ n. Err (refusal.TooDeep n)) (one_depth File ss 0 j k e.0 e.1 deep low))
-      by_result (Err refusal.NoMemory) h all e = inr refl
+  pub only_refusal : (due : ParseRefusal) → Refuses File (sorts_of bytes ts) due → (r ≡ Err due) ⊎ (r ≡ Err refusal.NoMemory)
+  only_refusal = outcomes.only_refusal File (λ f. f) (sorts_of bytes ts) r gives

@@ -1,6 +1,6 @@
 -- What the machine reads, the grammar of files has.
-use Rattle.std.proofs.Common.{◌≡◌, ℕ, Bool, true, false, List, [], ◌∷◌, ◌++◌, Option, Some, None, refl, ap, sym, ◌∙◌, subst}
-use Rattle.std.specs.Prelude.{IsTrue, IfSome, option_and_then, if◌then◌else◌}
+use Rattle.std.proofs.Common.{◌≡◌, ℕ, Bool, true, false, List, [], ◌∷◌, ◌++◌, Option, Some, None, refl, ◌∙◌, subst}
+use Rattle.std.specs.Prelude.{IsTrue, IfSome, if◌then◌else◌}
 use Rattle.sig_base.specs.declared.word.Word.{Word}
 use Rattle.sig_base.specs.declared.word.Word.TheVariants as w
 use Rattle.ty_parser.specs.declared.sort.Sort.{Sort}
@@ -9,15 +9,12 @@ use Rattle.ty_parser.specs.declared.tree.TyExp.{TyExp}
 use Rattle.ty_parser.specs.declared.tree.TypeAt.{TypeAt}
 use Rattle.ty_parser.specs.Grammar.{Numbered, Ty}
 use Rattle.ty_parser.specs.Sorts.{is_vid, is_tycon, is_long_tycon, is_strid, is_long_strid}
-use Rattle.ty_parser.specs.Machine as types
-use Rattle.ty_parser.specs.Machine.{run}
+use Rattle.ty_parser.specs.machine.Machine as types
+use Rattle.ty_parser.specs.machine.Machine.{run}
 use Rattle.sig_parser.specs.declared.tree.SourceFile.{SourceFile}
 use Rattle.sig_parser.specs.declared.tree.TopDec.{TopDec}
-use Rattle.sig_parser.specs.declared.tree.TopDec.TheVariants as topdec
 use Rattle.sig_parser.specs.declared.tree.Bind.{Bind}
 use Rattle.sig_parser.specs.declared.tree.SigExp.{SigExp}
-use Rattle.sig_parser.specs.declared.tree.SigBase.{SigBase}
-use Rattle.sig_parser.specs.declared.tree.SigBase.TheVariants as base
 use Rattle.sig_parser.specs.declared.tree.WherePart.{WherePart}
 use Rattle.sig_parser.specs.declared.tree.Spec.{Spec}
 use Rattle.sig_parser.specs.declared.tree.Spec.TheVariants as spec
@@ -27,26 +24,26 @@ use Rattle.sig_parser.specs.declared.tree.DataDesc.{DataDesc}
 use Rattle.sig_parser.specs.declared.tree.ConDesc.{ConDesc}
 use Rattle.sig_parser.specs.declared.point.Group.{Group}
 use Rattle.sig_parser.specs.declared.point.Group.TheVariants as group
-use Rattle.sig_parser.specs.Goals.{Goal, Level, Open}
-use Rattle.sig_parser.specs.Goals as goal
-use Rattle.sig_parser.specs.Heads.{Headed}
-use Rattle.sig_parser.specs.Heads as headed
-use Rattle.sig_parser.specs.Constructors.{Cons}
-use Rattle.sig_parser.specs.Constructors as cons
-use Rattle.sig_parser.specs.Owners.{Owner}
-use Rattle.sig_parser.specs.Owners as owner
+use Rattle.sig_parser.specs.machine.Goals.{Goal, Level, Open}
+use Rattle.sig_parser.specs.machine.Goals as goal
+use Rattle.sig_parser.specs.machine.Heads.{Headed}
+use Rattle.sig_parser.specs.machine.Heads as headed
+use Rattle.sig_parser.specs.machine.Constructors.{Cons}
+use Rattle.sig_parser.specs.machine.Constructors as cons
+use Rattle.sig_parser.specs.machine.Owners.{Owner}
+use Rattle.sig_parser.specs.machine.Owners as owner
 use Rattle.sig_parser.specs.declared.point.Shared.{Shared}
 use Rattle.sig_parser.specs.declared.point.Shared.TheVariants as shared
-use Rattle.sig_parser.specs.Points.{Point}
-use Rattle.sig_parser.specs.Points as point
+use Rattle.sig_parser.specs.machine.Points.{Point}
+use Rattle.sig_parser.specs.machine.Points as point
 use Rattle.ty_parser.proofs.Runs.{if_some-and_then}
 use Rattle.ty_parser.proofs.Sound as type_sound
 use Rattle.sig_parser.specs.Grammar as grammar
-use Rattle.sig_parser.specs.Grammar.{is_described_vid, Separated, Typed, typed, TyVar, tyvar, TyVarSeq, no_variables, variable, variables, Con, DatDesc, Part, part, Wheres, Parts, name_of, Sig, Specs, Described, Bindings, binding, Declared, TopDecs, no_decs, more_decs, top_semicolon}
-use Rattle.sig_parser.specs.Machine as machine
-use Rattle.sig_parser.specs.Machine.{State, At, InType, start, bind, sig_of, open_name, open_body, description, datatype, con, level, shared_spec, is_between, is_name, is_shared, with_spec, top_item, begin_spec, spec_item, item, behind_group, bound, want_id, have_id, begin_body, want_sig, leave, have_sig, two_names, have_name, after_where, have_part, next_binding, after_and, want_val, have_val, vals, types_, eqtypes, datatypes, begin_params, want_tycon, want_params, want_param, have_param, where_tycon, type_tycon, datatype_tycon, have_tycon, replica, after_equals, want_replica, want_con, constructors, exceptions, have_cons, have_con, includes, sharing_type, after_sharing, after_sharing_type, one_shared, want_shared, have_shared, begin_type, step_at, owned, behind_type, in_type, step, ended_group, ended_sig, ended, ended_type, finish}
+use Rattle.sig_parser.specs.Grammar.{is_described_vid, Separated, Typed, typed, TyVar, tyvar, TyVarSeq, no_variables, variable, variables, ConstructorDescription, DatatypeDescription, TypeRealization, part, Realizations, SomeRealizations, name_of, SignatureExpression, Specifications, Specification, Bindings, binding, TopDeclaration, TopDeclarations, no_decs, more_decs, top_semicolon}
+use Rattle.sig_parser.specs.machine.Machine as machine
+use Rattle.sig_parser.specs.machine.Machine.{State, At, InType, start, bind, sig_of, open_name, open_body, description, datatype, con, level, shared_spec, is_between, is_name, is_shared, with_spec, top_item, begin_spec, spec_item, item, behind_group, bound, want_id, have_id, begin_body, want_sig, leave, have_sig, two_names, have_name, after_where, have_part, next_binding, after_and, want_val, have_val, vals, types_, eqtypes, datatypes, begin_params, want_tycon, want_params, want_param, have_param, where_tycon, type_tycon, datatype_tycon, have_tycon, replica, after_equals, want_replica, want_con, constructors, exceptions, have_cons, have_con, includes, sharing_type, after_sharing, after_sharing_type, one_shared, want_shared, have_shared, begin_type, step_at, owned, behind_type, in_type, step, ended_group, ended_sig, ended, ended_type, finish}
 use Rattle.sig_parser.proofs.Leads.{parse}
-use Rattle.sig_parser.proofs.States.{Before, none, some, joined, BindingsBefore, unbound, bound_before, bindings_joined, PartBegun, begun_by_where, begun_by_and, part_joined, BodyTo, in_body, GoalTo, for_binding, for_include, GroupTo, signatures_to, structures_to, members_to, ItemsTo, at_top, inside, OpenTo, Wants, Has, has_more, wants_more, HeadedTo, DatatypeTo, ConsTo, between_cons, SharedTo, SharedBefore, OwnerTo, PointTo, StateTo, spec_joined, in_items, open_sig}
+use Rattle.sig_parser.proofs.States.{Before, none, some, joined, BindingsBefore, unbound, bound_before, bindings_joined, PartBegun, begun_by_where, begun_by_and, part_joined, BodyTo, in_body, GoalTo, for_binding, for_include, GroupTo, signatures_to, structures_to, members_to, ItemsTo, at_top, inside, OpenTo, has_more, wants_more, HeadedTo, DatatypeTo, SharedTo, SharedBefore, OwnerTo, PointTo, StateTo, spec_joined, in_items, open_sig}
 
 pub if_either : {A : Type 0} (P : A → Type 0) (b : Bool) (o p : Option A) → (IsTrue b → IfSome o P) → IfSome p P → IfSome (if b then o else p) P
 if_either P true o p h k = h refl
@@ -66,7 +63,7 @@ no_params no_variables e = refl
 no_params variable e = cc
 no_params (variables d) e = absurd (separated_some d e)
 
-top_sound : (ts r : List Numbered) (i : ℕ) (so : Sort) (decs : List TopDec) → TopDecs ts ((i, so) ∷ r) decs → IfSome (top_item decs so) (StateTo ts r)
+top_sound : (ts r : List Numbered) (i : ℕ) (so : Sort) (decs : List TopDec) → TopDeclarations ts ((i, so) ∷ r) decs → IfSome (top_item decs so) (StateTo ts r)
 unfolding top_item
 top_sound ts r i (s.Reserved w.KwSignature) decs d = (r, signatures_to d, unbound)
 top_sound ts r i (s.Reserved w.KwStructure) decs d = (r, structures_to d, unbound)
@@ -98,7 +95,7 @@ item_sound ts r i so decs [] (at_top d) = top_sound ts r i so decs d
 item_sound ts r i so decs (l ∷ ls) (inside to) = spec_sound ts r i so decs l ls to
 
 -- behind a whole specification
-behind_spec : (ts m r : List Numbered) (i : ℕ) (so : Sort) (decs : List TopDec) (ls : List Level) (x : Spec) → BodyTo ts m decs ls → Described m ((i, so) ∷ r) x → IfSome (item decs (with_spec ls x) so) (StateTo ts r)
+behind_spec : (ts m r : List Numbered) (i : ℕ) (so : Sort) (decs : List TopDec) (ls : List Level) (x : Spec) → BodyTo ts m decs ls → Specification m ((i, so) ∷ r) x → IfSome (item decs (with_spec ls x) so) (StateTo ts r)
 behind_spec ts m r i so decs ls x to d = item_sound ts r i so decs (with_spec ls x) (in_items (spec_joined to d))
 
 group_sound : (ts m r : List Numbered) (i : ℕ) (so : Sort) (decs : List TopDec) (ls : List Level) (k : Group) (bs : List Bind) → GroupTo ts m decs ls k → Bindings (is_between k) m ((i, so) ∷ r) bs → IfSome (behind_group decs ls k bs so) (StateTo ts r)
@@ -111,16 +108,16 @@ unfolding bound
 bound_sound ts m r i (s.Reserved w.KwAnd) decs ls k bs to d = (m, to, bound_before d)
 bound_sound ts m r i so decs ls k bs to d = group_sound ts m r i so decs ls k bs to d
 
-leave_sound : (ts m r : List Numbered) (i : ℕ) (so : Sort) (decs : List TopDec) (ls : List Level) (g : Goal) (x : SigExp) → GoalTo ts m decs ls g → Sig m ((i, so) ∷ r) x → IfSome (leave decs ls g x so) (StateTo ts r)
+leave_sound : (ts m r : List Numbered) (i : ℕ) (so : Sort) (decs : List TopDec) (ls : List Level) (g : Goal) (x : SigExp) → GoalTo ts m decs ls g → SignatureExpression m ((i, so) ∷ r) x → IfSome (leave decs ls g x so) (StateTo ts r)
 leave_sound ts m r i so decs ls (goal.Binding k bs j) x (for_binding to before named between) d = bound_sound ts _ r i so decs ls k _ to (bindings_joined before (binding named between d))
 leave_sound ts m r i so decs ls goal.Including x (for_include to) d = behind_spec ts _ r i so decs ls _ to (grammar.include_one d)
 
-have_sig_sound : (ts m r : List Numbered) (i : ℕ) (so : Sort) (decs : List TopDec) (ls : List Level) (o : Open) → OpenTo ts m decs ls o → Wheres m ((i, so) ∷ r) o.parts → IfSome (have_sig decs ls o i so) (StateTo ts r)
+have_sig_sound : (ts m r : List Numbered) (i : ℕ) (so : Sort) (decs : List TopDec) (ls : List Level) (o : Open) → OpenTo ts m decs ls o → Realizations m ((i, so) ∷ r) o.parts → IfSome (have_sig decs ls o i so) (StateTo ts r)
 unfolding have_sig
 have_sig_sound ts m r i (s.Reserved w.KwWhere) decs ls o to d = (m, to, d)
 have_sig_sound ts m r i so decs ls o to d = let h = open_sig o to d in leave_sound ts h.0 r i so decs ls o.goal (sig_of o) h.1 h.2
 
-have_part_sound : (ts m r : List Numbered) (i : ℕ) (so : Sort) (decs : List TopDec) (ls : List Level) (o : Open) → OpenTo ts m decs ls o → Parts m ((i, so) ∷ r) o.parts → IfSome (have_part decs ls o i so) (StateTo ts r)
+have_part_sound : (ts m r : List Numbered) (i : ℕ) (so : Sort) (decs : List TopDec) (ls : List Level) (o : Open) → OpenTo ts m decs ls o → SomeRealizations m ((i, so) ∷ r) o.parts → IfSome (have_part decs ls o i so) (StateTo ts r)
 unfolding have_part
 have_part_sound ts m r i (s.Reserved w.KwAnd) decs ls o to d = (m, to, d)
 have_part_sound ts m r i so decs ls o to d = have_sig_sound ts m r i so decs ls o to (grammar.parts d)
@@ -141,12 +138,12 @@ unfolding after_where
 after_where_sound ts m r i at (s.Reserved w.KwType) decs ls o to begun = (m, i, to, begun)
 after_where_sound ts m r i at _ decs ls o to begun = tt
 
-next_sound : (ts m r : List Numbered) (a i : ℕ) (so : Sort) (decs : List TopDec) (ls : List Level) (g : Goal) (x : SigExp) → GoalTo ts m decs ls g → Sig m ((a, s.Reserved w.KwAnd) ∷ (i, so) ∷ r) x → IsTrue (is_strid so) → IfSome (next_binding decs ls g x i) (StateTo ts r)
+next_sound : (ts m r : List Numbered) (a i : ℕ) (so : Sort) (decs : List TopDec) (ls : List Level) (g : Goal) (x : SigExp) → GoalTo ts m decs ls g → SignatureExpression m ((a, s.Reserved w.KwAnd) ∷ (i, so) ∷ r) x → IsTrue (is_strid so) → IfSome (next_binding decs ls g x i) (StateTo ts r)
 unfolding next_binding
 next_sound ts m r a i so decs ls (goal.Binding k bs j) x (for_binding to before named between) d next = (_, so, to, bound_before (bindings_joined before (binding named between d)), next)
 next_sound ts m r a i so decs ls goal.Including x to d next = tt
 
-after_and_sound : (ts m r : List Numbered) (i at : ℕ) (so : Sort) (decs : List TopDec) (ls : List Level) (o : Open) → OpenTo ts m decs ls o → Parts m ((at, s.Reserved w.KwAnd) ∷ (i, so) ∷ r) o.parts → IfSome (after_and decs ls o at i so) (StateTo ts r)
+after_and_sound : (ts m r : List Numbered) (i at : ℕ) (so : Sort) (decs : List TopDec) (ls : List Level) (o : Open) → OpenTo ts m decs ls o → SomeRealizations m ((at, s.Reserved w.KwAnd) ∷ (i, so) ∷ r) o.parts → IfSome (after_and decs ls o at i so) (StateTo ts r)
 unfolding after_and
 after_and_sound ts m r i at so decs ls o to d =
     let h = open_sig o to (grammar.parts d) in
@@ -399,18 +396,18 @@ run_sound ts st (t ∷ r) to = if_some-and_then (λ st'. types.run step st' r) (
 
 -- a file may end there
 abbrev Ends : List Numbered → Option SourceFile → Type 0
-Ends ts o = IfSome o (λ f. TopDecs ts [] f.decs)
+Ends ts o = IfSome o (λ f. TopDeclarations ts [] f.decs)
 
 group_ends : (ts m : List Numbered) (decs : List TopDec) (k : Group) (bs : List Bind) → GroupTo ts m decs [] k → Bindings (is_between k) m [] bs → Ends ts (ended_group decs k bs)
 group_ends ts m decs group.Signatures bs (signatures_to to) d = more_decs to (grammar.signature d)
 group_ends ts m decs group.Structures bs (structures_to to) d = more_decs to (grammar.top_structure d)
 group_ends ts m decs group.Members bs to d = tt
 
-sig_ends : (ts m : List Numbered) (decs : List TopDec) (g : Goal) (x : SigExp) → GoalTo ts m decs [] g → Sig m [] x → Ends ts (ended_sig decs g x)
+sig_ends : (ts m : List Numbered) (decs : List TopDec) (g : Goal) (x : SigExp) → GoalTo ts m decs [] g → SignatureExpression m [] x → Ends ts (ended_sig decs g x)
 sig_ends ts m decs (goal.Binding k bs i) x (for_binding to before named between) d = group_ends ts _ decs k _ to (bindings_joined before (binding named between d))
 sig_ends ts m decs goal.Including x to d = tt
 
-items_end : (ts : List Numbered) (decs : List TopDec) → ItemsTo ts [] decs [] → TopDecs ts [] decs
+items_end : (ts : List Numbered) (decs : List TopDec) → ItemsTo ts [] decs [] → TopDeclarations ts [] decs
 items_end ts decs (at_top d) = d
 
 point_ends : (ts : List Numbered) (decs : List TopDec) (p : Point) → PointTo ts [] decs [] p → Ends ts (ended decs p)
@@ -433,5 +430,5 @@ finish_sound ts (At decs (l ∷ ls) p) to = tt
 finish_sound ts (InType decs [] o first st) to = type_ends ts to.0 first to.1 decs o (types.finish st) to.2 (type_sound.finish_sound _ [] st to.3)
 finish_sound ts (InType decs (l ∷ ls) o first st) to = tt
 
-pub parse_sound : (ts : List Numbered) → IfSome (parse start ts) (λ f. TopDecs ts [] f.decs)
-parse_sound ts = if_some-and_then finish (types.run step start ts) (StateTo ts []) (λ f. TopDecs ts [] f.decs) (run_sound ts start ts (at_top no_decs)) (λ st to. finish_sound ts st to)
+pub parse_sound : (ts : List Numbered) → IfSome (parse start ts) (λ f. TopDeclarations ts [] f.decs)
+parse_sound ts = if_some-and_then finish (types.run step start ts) (StateTo ts []) (λ f. TopDeclarations ts [] f.decs) (run_sound ts start ts (at_top no_decs)) (λ st to. finish_sound ts st to)

@@ -1,9 +1,5 @@
+-- What the parser of files promises rests on the first two; the machine that reads their tokens one by one serves the
+-- proof that it keeps the promise.
 pub mod Grammar
 pub mod Files
-pub mod Goals
-pub mod Heads
-pub mod Constructors
-pub mod Owners
-pub mod Points
-pub mod Machine
-pub mod Views
+pub mod machine

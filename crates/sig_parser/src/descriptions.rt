@@ -1,9 +1,9 @@
 // Descriptions of values, types and datatypes, constructors and sharing.
 ghost use Rattle.std.specs.Prelude.{◌≡◌, ◌++◌, ◌∷◌, [], None, IfOk, OnOk};
-ghost use Rattle.ty_parser.specs.Machine.{taken};
+ghost use Rattle.ty_parser.specs.machine.Machine.{taken};
 ghost use Rattle.sig_parser.specs.Grammar as grammar;
-ghost use Rattle.sig_parser.specs.Machine as machine;
-ghost use Rattle.sig_parser.specs.Views.{state_of, levels, levels_over, before_goal, open_of, headed_of, before_headed, cons_of};
+ghost use Rattle.sig_parser.specs.machine.Machine as machine;
+ghost use Rattle.sig_parser.specs.machine.Views.{state_of, levels, levels_over, before_goal, open_of, headed_of, before_headed, cons_of};
 ghost use Rattle.sig_parser.specs.declared.point.Reading.{Reading};
 
 use crate::point::{Cons, Headed, Open, Owner, Point, Reading, Shared};
@@ -49,9 +49,10 @@ fn shared_spec(shared: Shared, names: List<u32>) -> Spec
 
 impl Reading {
     /// Hands over a token before the identifier of a value.
-    #[tactic(auto, unfolding(crate::specs::Machine::want_val))]
+    #[tactic(auto, unfolding(crate::specs::machine::Machine::want_val))]
     pub fn want_val(&mut self, place: u32, sort: Sort) -> bool
-        ensures value { taken result (state_of self.new) ≡ machine.want_val self.old.decs (levels self.old) self.old.values place sort }
+        ensures value { taken result (state_of self.new)
+            ≡ machine.want_val self.old.decs (levels self.old) self.old.values place sort }
     {
         if is_described_vid(sort) {
             self.point = Point::HaveVal(place);
@@ -62,9 +63,10 @@ impl Reading {
     }
 
     /// Hands over a token behind it.
-    #[tactic(auto, unfolding(crate::specs::Machine::have_val))]
+    #[tactic(auto, unfolding(crate::specs::machine::Machine::have_val))]
     pub fn have_val(&mut self, id: u32, sort: Sort) -> bool
-        ensures value { taken result (state_of self.new) ≡ machine.have_val self.old.decs (levels self.old) self.old.values id sort }
+        ensures value { taken result (state_of self.new)
+            ≡ machine.have_val self.old.decs (levels self.old) self.old.values id sort }
     {
         match sort {
             Sort::Reserved(Word::KwColon) => {
@@ -75,10 +77,11 @@ impl Reading {
         }
     }
 
-    #[tactic(auto, unfolding(crate::specs::Machine::begin_params))]
+    #[tactic(auto, unfolding(crate::specs::machine::Machine::begin_params))]
     fn begin_params(&mut self, headed: Headed, place: u32, sort: Sort) -> Result<bool, NoMemory>
         ensures { IfOk result (λ can. taken can (state_of self.new)
-            ≡ machine.begin_params self.old.decs (levels_over self.old (before_headed headed self.old.bindings)) (headed_of headed self.old) place sort) }
+            ≡ machine.begin_params self.old.decs (levels_over self.old (before_headed headed self.old.bindings))
+            (headed_of headed self.old) place sort) }
     {
         match sort {
             Sort::Variable => {
@@ -97,10 +100,11 @@ impl Reading {
     }
 
     /// Hands over a token before parameters.
-    #[tactic(auto, unfolding(crate::specs::Machine::want_params))]
+    #[tactic(auto, unfolding(crate::specs::machine::Machine::want_params))]
     pub fn want_params(&mut self, headed: Headed, place: u32, sort: Sort) -> Result<bool, NoMemory>
         ensures value { IfOk result (λ can. taken can (state_of self.new)
-            ≡ machine.want_params self.old.decs (levels_over self.old (before_headed headed self.old.bindings)) (headed_of headed self.old) place sort) }
+            ≡ machine.want_params self.old.decs (levels_over self.old (before_headed headed self.old.bindings))
+            (headed_of headed self.old) place sort) }
     {
         if is_name(headed, sort) {
             self.params.clear();
@@ -112,10 +116,11 @@ impl Reading {
     }
 
     /// Hands over a token before a parameter in parentheses.
-    #[tactic(auto, unfolding(crate::specs::Machine::want_param))]
+    #[tactic(auto, unfolding(crate::specs::machine::Machine::want_param))]
     pub fn want_param(&mut self, headed: Headed, place: u32, sort: Sort) -> Result<bool, NoMemory>
         ensures value { IfOk result (λ can. taken can (state_of self.new)
-            ≡ machine.want_param self.old.decs (levels_over self.old (before_headed headed self.old.bindings)) (headed_of headed self.old) self.old.params place sort) }
+            ≡ machine.want_param self.old.decs (levels_over self.old (before_headed headed self.old.bindings))
+            (headed_of headed self.old) self.old.params place sort) }
     {
         match sort {
             Sort::Variable => {
@@ -128,9 +133,11 @@ impl Reading {
     }
 
     /// Hands over a token behind a parameter in parentheses.
-    #[tactic(auto, unfolding(crate::specs::Machine::have_param))]
+    #[tactic(auto, unfolding(crate::specs::machine::Machine::have_param))]
     pub fn have_param(&mut self, headed: Headed, sort: Sort) -> bool
-        ensures value { taken result (state_of self.new) ≡ machine.have_param self.old.decs (levels_over self.old (before_headed headed self.old.bindings)) (headed_of headed self.old) self.old.params sort }
+        ensures value { taken result (state_of self.new)
+            ≡ machine.have_param self.old.decs (levels_over self.old (before_headed headed self.old.bindings))
+            (headed_of headed self.old) self.old.params sort }
     {
         match sort {
             Sort::Reserved(Word::KwComma) => {
@@ -146,9 +153,11 @@ impl Reading {
     }
 
     /// Hands over a token before a type constructor.
-    #[tactic(auto, unfolding(crate::specs::Machine::want_tycon))]
+    #[tactic(auto, unfolding(crate::specs::machine::Machine::want_tycon))]
     pub fn want_tycon(&mut self, headed: Headed, place: u32, sort: Sort) -> bool
-        ensures value { taken result (state_of self.new) ≡ machine.want_tycon self.old.decs (levels_over self.old (before_headed headed self.old.bindings)) (headed_of headed self.old) self.old.params place sort }
+        ensures value { taken result (state_of self.new)
+            ≡ machine.want_tycon self.old.decs (levels_over self.old (before_headed headed self.old.bindings))
+            (headed_of headed self.old) self.old.params place sort }
     {
         if is_name(headed, sort) {
             self.point = Point::HaveTycon(headed, place);
@@ -158,9 +167,11 @@ impl Reading {
         }
     }
 
-    #[tactic(auto, unfolding(crate::specs::Machine::where_tycon))]
+    #[tactic(auto, unfolding(crate::specs::machine::Machine::where_tycon))]
     fn where_tycon(&mut self, begun: Open, at: u32, tycon: u32, sort: Sort) -> bool
-        ensures { taken result (state_of self.new) ≡ machine.where_tycon self.old.decs (levels_over self.old (before_goal begun.goal self.old.bindings)) (open_of begun self.old) at self.old.params tycon sort }
+        ensures { taken result (state_of self.new)
+            ≡ machine.where_tycon self.old.decs (levels_over self.old (before_goal begun.goal self.old.bindings))
+            (open_of begun self.old) at self.old.params tycon sort }
     {
         match sort {
             Sort::Reserved(Word::KwEquals) => {
@@ -171,9 +182,10 @@ impl Reading {
         }
     }
 
-    #[tactic(auto, unfolding(crate::specs::Machine::datatype_tycon))]
+    #[tactic(auto, unfolding(crate::specs::machine::Machine::datatype_tycon))]
     fn datatype_tycon(&mut self, id: u32, sort: Sort) -> bool
-        ensures { taken result (state_of self.new) ≡ machine.datatype_tycon self.old.decs (levels self.old) self.old.datatypes self.old.params id sort }
+        ensures { taken result (state_of self.new)
+            ≡ machine.datatype_tycon self.old.decs (levels self.old) self.old.datatypes self.old.params id sort }
     {
         match sort {
             Sort::Reserved(Word::KwEquals) => {
@@ -185,9 +197,10 @@ impl Reading {
     }
 
     // A replication describes one type constructor, without parameters.
-    #[tactic(auto, unfolding(crate::specs::Machine::replica))]
+    #[tactic(auto, unfolding(crate::specs::machine::Machine::replica))]
     fn replica(&mut self, id: u32, sort: Sort) -> bool
-        ensures { taken result (state_of self.new) ≡ machine.replica self.old.decs (levels self.old) self.old.datatypes self.old.params id sort }
+        ensures { taken result (state_of self.new)
+            ≡ machine.replica self.old.decs (levels self.old) self.old.datatypes self.old.params id sort }
     {
         let alone = self.datatypes.is_empty() && self.params.is_empty();
         if alone && sort == Sort::Reserved(Word::KwDatatype) {
@@ -199,23 +212,25 @@ impl Reading {
     }
 
     /// Hands over a token behind the `=` of a datatype.
-    #[tactic(auto, unfolding(crate::specs::Machine::after_equals))]
+    #[tactic(auto, unfolding(crate::specs::machine::Machine::after_equals))]
     pub fn after_equals(&mut self, id: u32, place: u32, sort: Sort) -> bool
-        ensures value { taken result (state_of self.new) ≡ machine.after_equals self.old.decs (levels self.old) self.old.datatypes self.old.params id place sort }
+        ensures value { taken result (state_of self.new)
+            ≡ machine.after_equals self.old.decs (levels self.old) self.old.datatypes self.old.params id
+            place sort }
     {
-        if sort.is_vid() {
-            self.cons.clear();
-            self.point = Point::HaveCon(Cons::Datatype(id), place);
-            true
-        } else {
-            self.replica(id, sort)
+        if !sort.is_vid() {
+            return self.replica(id, sort);
         }
+        self.cons.clear();
+        self.point = Point::HaveCon(Cons::Datatype(id), place);
+        true
     }
 
     /// Hands over a token before a constructor or an exception.
-    #[tactic(auto, unfolding(crate::specs::Machine::want_con))]
+    #[tactic(auto, unfolding(crate::specs::machine::Machine::want_con))]
     pub fn want_con(&mut self, cons: Cons, place: u32, sort: Sort) -> bool
-        ensures value { taken result (state_of self.new) ≡ machine.want_con self.old.decs (levels self.old) (cons_of cons self.old) self.old.cons place sort }
+        ensures value { taken result (state_of self.new)
+            ≡ machine.want_con self.old.decs (levels self.old) (cons_of cons self.old) self.old.cons place sort }
     {
         if sort.is_vid() {
             self.point = Point::HaveCon(cons, place);
@@ -225,7 +240,7 @@ impl Reading {
         }
     }
 
-    #[tactic(auto, unfolding(crate::specs::Machine::sharing_type))]
+    #[tactic(auto, unfolding(crate::specs::machine::Machine::sharing_type))]
     fn sharing_type(&mut self, sort: Sort) -> bool
         ensures { taken result (state_of self.new) ≡ machine.sharing_type self.old.decs (levels self.old) sort }
     {
@@ -239,9 +254,10 @@ impl Reading {
     }
 
     /// Hands over a token behind `sharing`.
-    #[tactic(auto, unfolding(crate::specs::Machine::after_sharing))]
+    #[tactic(auto, unfolding(crate::specs::machine::Machine::after_sharing))]
     pub fn after_sharing(&mut self, place: u32, sort: Sort) -> bool
-        ensures value { taken result (state_of self.new) ≡ machine.after_sharing self.old.decs (levels self.old) place sort }
+        ensures value { taken result (state_of self.new)
+            ≡ machine.after_sharing self.old.decs (levels self.old) place sort }
     {
         if sort.is_long_strid() {
             self.point = Point::OneShared(Shared::Structures, place);
@@ -252,9 +268,10 @@ impl Reading {
     }
 
     /// Hands over a token behind `sharing type`.
-    #[tactic(auto, unfolding(crate::specs::Machine::after_sharing_type))]
+    #[tactic(auto, unfolding(crate::specs::machine::Machine::after_sharing_type))]
     pub fn after_sharing_type(&mut self, place: u32, sort: Sort) -> bool
-        ensures value { taken result (state_of self.new) ≡ machine.after_sharing_type self.old.decs (levels self.old) place sort }
+        ensures value { taken result (state_of self.new)
+            ≡ machine.after_sharing_type self.old.decs (levels self.old) place sort }
     {
         if sort.is_long_tycon() {
             self.point = Point::OneShared(Shared::Types, place);
@@ -265,7 +282,7 @@ impl Reading {
     }
 
     /// Hands over a token behind the first that is shared.
-    #[tactic(auto, unfolding(crate::specs::Machine::one_shared))]
+    #[tactic(auto, unfolding(crate::specs::machine::Machine::one_shared))]
     pub fn one_shared(&mut self, shared: Shared, first: u32, sort: Sort) -> Result<bool, NoMemory>
         ensures value { IfOk result (λ can. taken can (state_of self.new)
             ≡ machine.one_shared self.old.decs (levels self.old) shared first sort) }
@@ -282,7 +299,7 @@ impl Reading {
     }
 
     /// Hands over a token before one more that is shared.
-    #[tactic(auto, unfolding(crate::specs::Machine::want_shared))]
+    #[tactic(auto, unfolding(crate::specs::machine::Machine::want_shared))]
     pub fn want_shared(&mut self, shared: Shared, place: u32, sort: Sort) -> Result<bool, NoMemory>
         ensures value { IfOk result (λ can. taken can (state_of self.new)
             ≡ machine.want_shared self.old.decs (levels self.old) shared self.old.names place sort) }
@@ -297,7 +314,7 @@ impl Reading {
     }
 
     /// Hands over a token behind two or more that are shared.
-    #[tactic(auto, unfolding(crate::specs::Machine::have_shared))]
+    #[tactic(auto, unfolding(crate::specs::machine::Machine::have_shared))]
     pub fn have_shared(&mut self, shared: Shared, sort: Sort) -> Result<bool, NoMemory>
         ensures value { IfOk result (λ can. taken can (state_of self.new)
             ≡ machine.have_shared self.old.decs (levels self.old) shared self.old.names sort) }
@@ -315,7 +332,7 @@ impl Reading {
     }
 
     /// Hands over a token behind values.
-    #[tactic(auto, unfolding(crate::specs::Machine::vals))]
+    #[tactic(auto, unfolding(crate::specs::machine::Machine::vals))]
     pub fn vals(&mut self, sort: Sort) -> Result<bool, NoMemory>
         ensures value { IfOk result (λ can. taken can (state_of self.new)
             ≡ machine.vals self.old.decs (levels self.old) self.old.values sort) }
@@ -333,7 +350,7 @@ impl Reading {
     }
 
     /// Hands over a token behind type descriptions.
-    #[tactic(auto, unfolding(crate::specs::Machine::types_))]
+    #[tactic(auto, unfolding(crate::specs::machine::Machine::types_))]
     pub fn types(&mut self, sort: Sort) -> Result<bool, NoMemory>
         ensures value { IfOk result (λ can. taken can (state_of self.new)
             ≡ machine.types_ self.old.decs (levels self.old) self.old.types sort) }
@@ -351,7 +368,7 @@ impl Reading {
     }
 
     /// Hands over a token behind those of an `eqtype`.
-    #[tactic(auto, unfolding(crate::specs::Machine::eqtypes))]
+    #[tactic(auto, unfolding(crate::specs::machine::Machine::eqtypes))]
     pub fn eqtypes(&mut self, sort: Sort) -> Result<bool, NoMemory>
         ensures value { IfOk result (λ can. taken can (state_of self.new)
             ≡ machine.eqtypes self.old.decs (levels self.old) self.old.types sort) }
@@ -369,7 +386,7 @@ impl Reading {
     }
 
     /// Hands over a token behind datatypes.
-    #[tactic(auto, unfolding(crate::specs::Machine::datatypes))]
+    #[tactic(auto, unfolding(crate::specs::machine::Machine::datatypes))]
     pub fn datatypes(&mut self, sort: Sort) -> Result<bool, NoMemory>
         ensures value { IfOk result (λ can. taken can (state_of self.new)
             ≡ machine.datatypes self.old.decs (levels self.old) self.old.datatypes sort) }
@@ -386,7 +403,7 @@ impl Reading {
         }
     }
 
-    #[tactic(auto, unfolding(crate::specs::Machine::type_tycon))]
+    #[tactic(auto, unfolding(crate::specs::machine::Machine::type_tycon))]
     fn type_tycon(&mut self, id: u32, sort: Sort) -> Result<bool, NoMemory>
         ensures { IfOk result (λ can. taken can (state_of self.new)
             ≡ machine.type_tycon self.old.decs (levels self.old) self.old.types self.old.params id sort) }
@@ -407,7 +424,8 @@ impl Reading {
 
     fn eqtype_tycon(&mut self, id: u32, sort: Sort) -> Result<bool, NoMemory>
         ensures { IfOk result (λ can. taken can (state_of self.new)
-            ≡ machine.eqtypes self.old.decs (levels self.old) (self.old.types ++ machine.description self.old.params id None ∷ []) sort) }
+            ≡ machine.eqtypes self.old.decs (levels self.old)
+            (self.old.types ++ machine.description self.old.params id None ∷ []) sort) }
     {
         let params = self.params.take_all()?;
         let rhs = None;
@@ -418,7 +436,8 @@ impl Reading {
     /// Hands over a token behind a type constructor.
     pub fn have_tycon(&mut self, headed: Headed, id: u32, sort: Sort) -> Result<bool, NoMemory>
         ensures value { IfOk result (λ can. taken can (state_of self.new)
-            ≡ machine.have_tycon self.old.decs (levels_over self.old (before_headed headed self.old.bindings)) (headed_of headed self.old) self.old.params id sort) }
+            ≡ machine.have_tycon self.old.decs (levels_over self.old (before_headed headed self.old.bindings))
+            (headed_of headed self.old) self.old.params id sort) }
     {
         match headed {
             Headed::Where(begun, at) => Ok(self.where_tycon(begun, at, id, sort)),
@@ -429,7 +448,7 @@ impl Reading {
     }
 
     /// Hands over a token before the type constructor that is replicated.
-    #[tactic(auto, unfolding(crate::specs::Machine::want_replica))]
+    #[tactic(auto, unfolding(crate::specs::machine::Machine::want_replica))]
     pub fn want_replica(&mut self, id: u32, place: u32, sort: Sort) -> Result<bool, NoMemory>
         ensures value { IfOk result (λ can. taken can (state_of self.new)
             ≡ machine.want_replica self.old.decs (levels self.old) id place sort) }
@@ -443,10 +462,11 @@ impl Reading {
         }
     }
 
-    #[tactic(auto, unfolding(crate::specs::Machine::constructors))]
+    #[tactic(auto, unfolding(crate::specs::machine::Machine::constructors))]
     fn constructors(&mut self, id: u32, sort: Sort) -> Result<bool, NoMemory>
         ensures { IfOk result (λ can. taken can (state_of self.new)
-            ≡ machine.constructors self.old.decs (levels self.old) self.old.datatypes self.old.params id self.old.cons sort) }
+            ≡ machine.constructors self.old.decs (levels self.old) self.old.datatypes self.old.params id
+            self.old.cons sort) }
     {
         match sort {
             Sort::Reserved(Word::KwBar) => {
@@ -462,7 +482,7 @@ impl Reading {
         }
     }
 
-    #[tactic(auto, unfolding(crate::specs::Machine::exceptions))]
+    #[tactic(auto, unfolding(crate::specs::machine::Machine::exceptions))]
     fn exceptions(&mut self, sort: Sort) -> Result<bool, NoMemory>
         ensures { IfOk result (λ can. taken can (state_of self.new)
             ≡ machine.exceptions self.old.decs (levels self.old) self.old.cons sort) }
@@ -491,7 +511,7 @@ impl Reading {
     }
 
     /// Hands over a token behind the identifier of a constructor or an exception.
-    #[tactic(auto, unfolding(crate::specs::Machine::have_con))]
+    #[tactic(auto, unfolding(crate::specs::machine::Machine::have_con))]
     pub fn have_con(&mut self, cons: Cons, id: u32, sort: Sort) -> Result<bool, NoMemory>
         ensures value { IfOk result (λ can. taken can (state_of self.new)
             ≡ machine.have_con self.old.decs (levels self.old) (cons_of cons self.old) self.old.cons id sort) }

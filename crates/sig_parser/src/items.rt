@@ -1,19 +1,20 @@
 // What stands between specifications and between top declarations, and what is done behind a whole one.
 ghost use Rattle.std.specs.Prelude.{◌≡◌, List, [], ◌∷◌, IfOk, OnOk};
-ghost use Rattle.sig_parser.specs.Goals as goals;
+ghost use Rattle.sig_parser.specs.machine.Goals as goals;
 ghost use Rattle.std.specs.Option.{option_map};
-ghost use Rattle.ty_parser.specs.Machine.{last_of, before_last, taken};
+ghost use Rattle.sig_base.specs.Stacks.{last_of, before_last};
+ghost use Rattle.ty_parser.specs.machine.Machine.{taken};
 ghost use Rattle.ty_parser.specs.declared.sort.Sort.TheVariants.{Reserved};
 ghost use Rattle.sig_base.specs.declared.word.Word.TheVariants.{KwEnd};
-ghost use Rattle.sig_parser.specs.Machine as machine;
-ghost use Rattle.sig_parser.specs.Machine.{At};
-ghost use Rattle.sig_parser.specs.Views.{state_of, levels, levels_over, goal_of, before_goal};
+ghost use Rattle.sig_parser.specs.machine.Machine as machine;
+ghost use Rattle.sig_parser.specs.machine.Machine.{At};
+ghost use Rattle.sig_parser.specs.machine.Views.{state_of, levels, levels_over, goal_of, before_goal};
 
 use crate::point::{Base, Cons, Goal, Group, Headed, Level, Open, Point, Reading};
 use crate::tree::{Bind, SigExp, Spec, TopDec};
-use sig_base::{List, NoMemory, Word};
+use sig_base::{List, NoMemory, Stack, Word};
 use std::alloc::Global;
-use ty_parser::{Reader as TypeReader, Sort, Stack, one_more};
+use ty_parser::{Reader as TypeReader, Sort};
 
 /// The list of one item.
 pub fn one<T: Drop>(alloc: Global, item: T) -> Result<List<T>, NoMemory>
@@ -48,9 +49,10 @@ impl Reading {
         }
     }
 
-    #[tactic(auto, unfolding(crate::specs::Machine::top_item))]
+    #[tactic(auto, unfolding(crate::specs::machine::Machine::top_item))]
     fn top_item(&mut self, sort: Sort) -> bool
-        ensures { self.old.levels ≡ [] → taken result (state_of self.new) ≡ machine.top_item self.old.decs sort }
+        ensures { self.old.levels ≡ []
+            → taken result (state_of self.new) ≡ machine.top_item self.old.decs sort }
     {
         match sort {
             Sort::Reserved(Word::KwSignature) => {
@@ -69,9 +71,10 @@ impl Reading {
         }
     }
 
-    #[tactic(auto, unfolding(crate::specs::Machine::begin_spec))]
+    #[tactic(auto, unfolding(crate::specs::machine::Machine::begin_spec))]
     fn begin_spec(&mut self, sort: Sort) -> bool
-        ensures { taken result (state_of self.new) ≡ option_map (At self.old.decs (levels self.old)) (machine.begin_spec sort) }
+        ensures { taken result (state_of self.new)
+            ≡ option_map (At self.old.decs (levels self.old)) (machine.begin_spec sort) }
     {
         match sort {
             Sort::Reserved(Word::KwVal) => {
@@ -120,7 +123,7 @@ impl Reading {
     }
 
     // Ends the innermost body.
-    #[tactic(auto, unfolding(crate::specs::Machine::spec_item))]
+    #[tactic(auto, unfolding(crate::specs::machine::Machine::spec_item))]
     fn end_body(&mut self) -> Result<bool, NoMemory>
         ensures { IfOk result (λ can. taken can (state_of self.new)
             ≡ machine.item self.old.decs (levels self.old) (Reserved KwEnd)) }
@@ -147,15 +150,14 @@ impl Reading {
             None => Ok(()),
             Some(level) => {
                 let Level { goal, first, specs } = level;
-                self.specs.push(spec)?;
-                let specs = one_more(specs)?;
+                let specs = self.specs.push_counted(specs, spec)?;
                 self.levels.push(Level { goal, first, specs })?;
                 Ok(())
             }
         }
     }
 
-    #[tactic(auto, unfolding(crate::specs::Machine::spec_item))]
+    #[tactic(auto, unfolding(crate::specs::machine::Machine::spec_item))]
     fn inner_item(&mut self, sort: Sort) -> Result<bool, NoMemory>
         ensures { IfOk result (λ can. (l : goals.Level) (ls : List goals.Level) → levels self.old ≡ l ∷ ls
             → taken can (state_of self.new) ≡ machine.spec_item self.old.decs l ls sort) }
@@ -180,7 +182,8 @@ impl Reading {
 
     fn behind_group(&mut self, group: Group, count: usize, sort: Sort) -> Result<bool, NoMemory>
         ensures { IfOk result (λ can. taken can (state_of self.new)
-            ≡ machine.behind_group self.old.decs (levels_over self.old (before_last count self.old.bindings)) group (last_of count self.old.bindings) sort) }
+            ≡ machine.behind_group self.old.decs (levels_over self.old (before_last count self.old.bindings))
+            group (last_of count self.old.bindings) sort) }
     {
         let bindings = self.bindings.take_last(count)?;
         match group {
@@ -192,10 +195,11 @@ impl Reading {
     }
 
     /// Hands over a token behind bindings.
-    #[tactic(auto, unfolding(crate::specs::Machine::bound))]
+    #[tactic(auto, unfolding(crate::specs::machine::Machine::bound))]
     pub fn bound(&mut self, group: Group, count: usize, sort: Sort) -> Result<bool, NoMemory>
         ensures value { IfOk result (λ can. taken can (state_of self.new)
-            ≡ machine.bound self.old.decs (levels_over self.old (before_last count self.old.bindings)) group (last_of count self.old.bindings) sort) }
+            ≡ machine.bound self.old.decs (levels_over self.old (before_last count self.old.bindings)) group
+            (last_of count self.old.bindings) sort) }
     {
         match sort {
             Sort::Reserved(Word::KwAnd) => {
@@ -215,12 +219,13 @@ impl Reading {
         sort: Sort,
     ) -> Result<bool, NoMemory>
         ensures value { IfOk result (λ can. taken can (state_of self.new)
-            ≡ machine.leave self.old.decs (levels_over self.old (before_goal goal self.old.bindings)) (goal_of goal self.old.bindings) sig sort) }
+            ≡ machine.leave self.old.decs (levels_over self.old (before_goal goal self.old.bindings))
+            (goal_of goal self.old.bindings) sig sort) }
     {
         match goal {
             Goal::Binding(group, count, id) => {
-                self.bindings.push(Bind { id, rhs: sig })?;
-                self.bound(group, one_more(count)?, sort)
+                let bindings = self.bindings.push_counted(count, Bind { id, rhs: sig })?;
+                self.bound(group, bindings, sort)
             }
             Goal::Including => self.behind_spec(Spec::Include(one(alloc, sig)?), sort),
         }

@@ -2,11 +2,12 @@
 //! and 3.4).
 //!
 //! `parse_file` gives the tree of a text's tokens, or the token at which they stop being a file or nest too
-//! deep. The grammar stands in specs/Grammar.antt.
+//! deep. The grammar stands in specs/Grammar.antt. The laws say that no two of the answers are due at once.
 #![tactic(auto)]
 
 mod descriptions;
 mod items;
+mod laws;
 mod parse;
 mod point;
 mod sigs;
@@ -15,7 +16,8 @@ mod stage;
 mod tests;
 mod tree;
 
-pub use parse::{one_stop, one_tree, parse_file};
+pub use laws::{no_depth, one_depth, one_stop, one_tree};
+pub use parse::parse_file;
 pub use tree::{
     Bind, ConDesc, DataDesc, SigBase, SigExp, SourceFile, Spec, TopDec, TypeDesc, ValDesc,
     WherePart,

@@ -1,13 +1,13 @@
 // The parser of signature files.
-ghost use Rattle.std.specs.Prelude.{◌≡◌, ◌<◌, ◌≤◌, ◌⊎◌, ℕ, ◌+◌, Some, Ok, Err, List, length, IfOk, IfErr, OnOk};
+ghost use Rattle.std.specs.Prelude.{◌≡◌, ◌≤◌, ◌⊎◌, Some, Ok, Err, length, IfOk, IfErr, OnOk};
 ghost use Rattle.sml_lexer.specs.Tokens.{tokens as tokens_of};
 ghost use Rattle.ty_parser.specs.Sorts.{sorts_of};
-ghost use Rattle.ty_parser.specs.Phrases.{IsShallow, Refuses, StopsAt, TooDeepAt, most_open};
-ghost use Rattle.ty_parser.specs.declared.sort.Sort.{Sort};
-ghost use Rattle.ty_parser.specs.declared.tree.ParseRefusal.TheVariants.{Syntax, TooDeep, NoMemory};
+ghost use Rattle.ty_parser.specs.Phrases.{IsShallow, Refuses, Tells, most_open};
+ghost use Rattle.ty_parser.specs.declared.tree.ParseRefusal.{ParseRefusal as AParseRefusal};
+ghost use Rattle.ty_parser.specs.declared.tree.ParseRefusal.TheVariants.{NoMemory};
 ghost use Rattle.sig_parser.specs.Files.{File};
-ghost use Rattle.sig_parser.specs.Machine as machine;
-ghost use Rattle.sig_parser.specs.Views.{state_of};
+ghost use Rattle.sig_parser.specs.machine.Machine as machine;
+ghost use Rattle.sig_parser.specs.machine.Views.{state_of};
 ghost use Rattle.sig_parser.specs.declared.tree.SourceFile.{SourceFile};
 
 use crate::point::Reading;
@@ -30,16 +30,12 @@ pub fn parse_file(alloc: Global, bytes: &[u8], tokens: &[Token]) -> Result<Sourc
     requires tokens { tokens_of bytes.now tokens.now }
     ensures tree { IfOk result (λ f. File (sorts_of bytes.now tokens.now) f) }
     ensures shallow { IfOk result (λ _. IsShallow File 0 (sorts_of bytes.now tokens.now) (length tokens.now)) }
-    ensures refusal { IfErr result (λ refusal. Refuses File (sorts_of bytes.now tokens.now) refusal) }
+    ensures refusal { IfErr result (λ refusal. Tells File (sorts_of bytes.now tokens.now) refusal) }
     ensures only_tree { (f : SourceFile) → File (sorts_of bytes.now tokens.now) f
         → IsShallow File 0 (sorts_of bytes.now tokens.now) (length tokens.now)
         → (result ≡ Ok f) ⊎ (result ≡ Err NoMemory) }
-    ensures only_syntax { (k : ℕ) → StopsAt File (sorts_of bytes.now tokens.now) k
-        → IsShallow File 0 (sorts_of bytes.now tokens.now) k
-        → (result ≡ Err (Syntax k)) ⊎ (result ≡ Err NoMemory) }
-    ensures only_too_deep { (k : ℕ) → TooDeepAt File 0 (sorts_of bytes.now tokens.now) k
-        → IsShallow File 0 (sorts_of bytes.now tokens.now) k
-        → (result ≡ Err (TooDeep k)) ⊎ (result ≡ Err NoMemory) }
+    ensures only_refusal { (refusal : AParseRefusal) → Refuses File (sorts_of bytes.now tokens.now) refusal
+        → (result ≡ Err refusal) ⊎ (result ≡ Err NoMemory) }
 {
     read_file(alloc, bytes, tokens)
 }
@@ -49,7 +45,7 @@ fn read_file(alloc: Global, bytes: &[u8], tokens: &[Token]) -> Result<SourceFile
     requires tokens { tokens_of bytes.now tokens.now }
     ensures tree { IfOk result (λ f. File (sorts_of bytes.now tokens.now) f) }
     ensures shallow { IfOk result (λ _. IsShallow File 0 (sorts_of bytes.now tokens.now) (length tokens.now)) }
-    ensures refusal { IfErr result (λ refusal. Refuses File (sorts_of bytes.now tokens.now) refusal) }
+    ensures refusal { IfErr result (λ refusal. Tells File (sorts_of bytes.now tokens.now) refusal) }
 {
     let mut reading = Reading::new(alloc);
     let mut place: u32 = 0;
@@ -64,9 +60,10 @@ fn read_file(alloc: Global, bytes: &[u8], tokens: &[Token]) -> Result<SourceFile
 // Hands over a token with this number and sort.
 fn step(alloc: Global, reading: &mut Reading, place: u32, sort: Sort) -> Result<(), ParseRefusal>
     requires low { machine.depth (state_of reading.old) ≤ most_open }
-    ensures next { OnOk result (machine.step (state_of reading.old) (place, sort) ≡ Some (state_of reading.new)) }
+    ensures next { OnOk result (machine.step (state_of reading.old) (place, sort)
+        ≡ Some (state_of reading.new)) }
     ensures low { OnOk result (machine.depth (state_of reading.new) ≤ most_open) }
-    ensures refusal { IfErr result (λ e. machine.Refuses (state_of reading.old) place sort e) }
+    ensures refusal { IfErr result (λ e. machine.Tells (state_of reading.old) place sort e) }
 {
     let can = reading.next(alloc, place, sort)?;
     if !can {
@@ -81,7 +78,7 @@ fn step(alloc: Global, reading: &mut Reading, place: u32, sort: Sort) -> Result<
 // What reading gives at the end of the tokens, where there are so many.
 fn ended(alloc: Global, mut reading: Reading, count: u32) -> Result<SourceFile, ParseRefusal>
     ensures tree { IfOk result (λ f. machine.finish (state_of reading) ≡ Some f) }
-    ensures refusal { IfErr result (λ e. machine.RefusesEnd (state_of reading) count e) }
+    ensures refusal { IfErr result (λ e. machine.TellsEnd (state_of reading) count e) }
 {
     let can = reading.finish(alloc)?;
     if !can {
@@ -90,13 +87,3 @@ fn ended(alloc: Global, mut reading: Reading, count: u32) -> Result<SourceFile, 
     let decs = reading.decs.take_all()?;
     Ok(SourceFile { decs })
 }
-
-/// One list of tokens has at most one tree.
-pub fn one_tree()
-    ensures { (ss : List Sort) (f g : SourceFile) → File ss f → File ss g → f ≡ g }
-{}
-
-/// A list of tokens stops being a file at one place.
-pub fn one_stop()
-    ensures { (ss : List Sort) (j k : ℕ) → StopsAt File ss j → StopsAt File ss k → j ≡ k }
-{}

@@ -1,7 +1,7 @@
 // How far the reading of a signature file has come.
 use crate::tree::{Bind, ConDesc, DataDesc, SigExp, Spec, TopDec, TypeDesc, ValDesc, WherePart};
-use sig_base::List;
-use ty_parser::{Reader as TypeReader, Stack};
+use sig_base::{List, Stack};
+use ty_parser::Reader as TypeReader;
 
 /// Where bindings stand.
 #[derive(Clone, Copy)]

@@ -1,16 +1,17 @@
 // Bindings, signature expressions and their `where`.
 ghost use Rattle.std.specs.Prelude.{◌≡◌, IfOk};
-ghost use Rattle.ty_parser.specs.Machine.{last_of, before_last, taken};
+ghost use Rattle.sig_base.specs.Stacks.{last_of, before_last};
+ghost use Rattle.ty_parser.specs.machine.Machine.{taken};
 ghost use Rattle.sig_parser.specs.Grammar as grammar;
-ghost use Rattle.sig_parser.specs.Machine as machine;
-ghost use Rattle.sig_parser.specs.Views.{state_of, levels, levels_over, goal_of, before_goal, open_of, sig_at};
+ghost use Rattle.sig_parser.specs.machine.Machine as machine;
+ghost use Rattle.sig_parser.specs.machine.Views.{state_of, levels, levels_over, goal_of, before_goal, open_of, sig_at};
 
 use crate::point::{Base, Goal, Group, Headed, Level, Open, Point, Reading};
 use crate::tree::{Bind, SigBase, SigExp, Spec, WherePart};
-use sig_base::{List, NoMemory, Word};
+use sig_base::{List, NoMemory, Stack, Word};
 use std::alloc::Global;
 use std::mem;
-use ty_parser::{Sort, Stack, one_more};
+use ty_parser::Sort;
 
 /// The signature with this identifier, as a signature expression.
 pub fn name_of(alloc: Global, id: u32) -> SigExp
@@ -65,9 +66,11 @@ pub fn closed(
 
 impl Reading {
     /// Hands over a token before the identifier of a binding.
-    #[tactic(auto, unfolding(crate::specs::Machine::want_id))]
+    #[tactic(auto, unfolding(crate::specs::machine::Machine::want_id))]
     pub fn want_id(&mut self, group: Group, count: usize, place: u32, sort: Sort) -> bool
-        ensures value { taken result (state_of self.new) ≡ machine.want_id self.old.decs (levels_over self.old (before_last count self.old.bindings)) group (last_of count self.old.bindings) place sort }
+        ensures value { taken result (state_of self.new)
+            ≡ machine.want_id self.old.decs (levels_over self.old (before_last count self.old.bindings)) group
+            (last_of count self.old.bindings) place sort }
     {
         if sort.is_strid() {
             self.point = Point::HaveId(group, count, place);
@@ -78,9 +81,11 @@ impl Reading {
     }
 
     /// Hands over a token behind it.
-    #[tactic(auto, unfolding(crate::specs::Machine::have_id))]
+    #[tactic(auto, unfolding(crate::specs::machine::Machine::have_id))]
     pub fn have_id(&mut self, group: Group, count: usize, id: u32, sort: Sort) -> bool
-        ensures value { taken result (state_of self.new) ≡ machine.have_id self.old.decs (levels_over self.old (before_last count self.old.bindings)) group (last_of count self.old.bindings) id sort }
+        ensures value { taken result (state_of self.new)
+            ≡ machine.have_id self.old.decs (levels_over self.old (before_last count self.old.bindings)) group
+            (last_of count self.old.bindings) id sort }
     {
         if is_between(group, sort) {
             self.point = Point::WantSig(Goal::Binding(group, count, id));
@@ -91,9 +96,11 @@ impl Reading {
     }
 
     /// Hands over a token behind `where`, or behind the `and` of a part.
-    #[tactic(auto, unfolding(crate::specs::Machine::after_where))]
+    #[tactic(auto, unfolding(crate::specs::machine::Machine::after_where))]
     pub fn after_where(&mut self, begun: Open, at: u32, sort: Sort) -> bool
-        ensures value { taken result (state_of self.new) ≡ machine.after_where self.old.decs (levels_over self.old (before_goal begun.goal self.old.bindings)) (open_of begun self.old) at sort }
+        ensures value { taken result (state_of self.new)
+            ≡ machine.after_where self.old.decs (levels_over self.old (before_goal begun.goal self.old.bindings))
+            (open_of begun self.old) at sort }
     {
         match sort {
             Sort::Reserved(Word::KwType) => {
@@ -104,7 +111,7 @@ impl Reading {
         }
     }
 
-    #[tactic(auto, unfolding(crate::specs::Machine::two_names))]
+    #[tactic(auto, unfolding(crate::specs::machine::Machine::two_names))]
     fn two_names(
         &mut self,
         alloc: Global,
@@ -113,7 +120,8 @@ impl Reading {
         other: u32,
     ) -> Result<bool, NoMemory>
         ensures { IfOk result (λ can. taken can (state_of self.new)
-            ≡ machine.two_names self.old.decs (levels_over self.old (before_goal goal self.old.bindings)) (goal_of goal self.old.bindings) one_id other) }
+            ≡ machine.two_names self.old.decs (levels_over self.old (before_goal goal self.old.bindings))
+            (goal_of goal self.old.bindings) one_id other) }
     {
         match goal {
             Goal::Binding(_, _, _) => Ok(false),
@@ -128,15 +136,16 @@ impl Reading {
     }
 
     // An identifier behind `and` begins the next binding.
-    #[tactic(auto, unfolding(crate::specs::Machine::next_binding))]
+    #[tactic(auto, unfolding(crate::specs::machine::Machine::next_binding))]
     fn next_binding(&mut self, goal: Goal, sig: SigExp, place: u32) -> Result<bool, NoMemory>
         ensures { IfOk result (λ can. taken can (state_of self.new)
-            ≡ machine.next_binding self.old.decs (levels_over self.old (before_goal goal self.old.bindings)) (goal_of goal self.old.bindings) sig place) }
+            ≡ machine.next_binding self.old.decs (levels_over self.old (before_goal goal self.old.bindings))
+            (goal_of goal self.old.bindings) sig place) }
     {
         match goal {
             Goal::Binding(group, count, id) => {
-                self.bindings.push(Bind { id, rhs: sig })?;
-                self.point = Point::HaveId(group, one_more(count)?, place);
+                let bindings = self.bindings.push_counted(count, Bind { id, rhs: sig })?;
+                self.point = Point::HaveId(group, bindings, place);
                 Ok(true)
             }
             Goal::Including => Ok(false),
@@ -144,7 +153,7 @@ impl Reading {
     }
 
     /// Hands over a token behind the `and` of a part.
-    #[tactic(auto, unfolding(crate::specs::Machine::after_and))]
+    #[tactic(auto, unfolding(crate::specs::machine::Machine::after_and))]
     pub fn after_and(
         &mut self,
         alloc: Global,
@@ -154,7 +163,8 @@ impl Reading {
         sort: Sort,
     ) -> Result<bool, NoMemory>
         ensures value { IfOk result (λ can. taken can (state_of self.new)
-            ≡ machine.after_and self.old.decs (levels_over self.old (before_goal begun.goal self.old.bindings)) (open_of begun self.old) at place sort) }
+            ≡ machine.after_and self.old.decs (levels_over self.old (before_goal begun.goal self.old.bindings))
+            (open_of begun self.old) at place sort) }
     {
         if sort.is_strid() {
             let sig = closed(alloc, begun, &mut self.body, &mut self.parts)?;
@@ -164,10 +174,11 @@ impl Reading {
         }
     }
 
-    #[tactic(auto, unfolding(crate::specs::Machine::begin_body))]
+    #[tactic(auto, unfolding(crate::specs::machine::Machine::begin_body))]
     fn begin_body(&mut self, goal: Goal, first: u32, sort: Sort) -> Result<bool, NoMemory>
         ensures { IfOk result (λ can. taken can (state_of self.new)
-            ≡ machine.begin_body self.old.decs (levels_over self.old (before_goal goal self.old.bindings)) (goal_of goal self.old.bindings) first sort) }
+            ≡ machine.begin_body self.old.decs (levels_over self.old (before_goal goal self.old.bindings))
+            (goal_of goal self.old.bindings) first sort) }
     {
         match sort {
             Sort::Reserved(Word::KwSig) => {
@@ -181,10 +192,11 @@ impl Reading {
     }
 
     /// Hands over a token before a signature expression.
-    #[tactic(auto, unfolding(crate::specs::Machine::want_sig))]
+    #[tactic(auto, unfolding(crate::specs::machine::Machine::want_sig))]
     pub fn want_sig(&mut self, goal: Goal, place: u32, sort: Sort) -> Result<bool, NoMemory>
         ensures value { IfOk result (λ can. taken can (state_of self.new)
-            ≡ machine.want_sig self.old.decs (levels_over self.old (before_goal goal self.old.bindings)) (goal_of goal self.old.bindings) place sort) }
+            ≡ machine.want_sig self.old.decs (levels_over self.old (before_goal goal self.old.bindings))
+            (goal_of goal self.old.bindings) place sort) }
     {
         if sort.is_strid() {
             self.point = Point::HaveName(goal, place);
@@ -195,7 +207,7 @@ impl Reading {
     }
 
     /// Hands over a token behind a signature expression.
-    #[tactic(auto, unfolding(crate::specs::Machine::have_sig))]
+    #[tactic(auto, unfolding(crate::specs::machine::Machine::have_sig))]
     pub fn have_sig(
         &mut self,
         alloc: Global,
@@ -204,7 +216,8 @@ impl Reading {
         sort: Sort,
     ) -> Result<bool, NoMemory>
         ensures value { IfOk result (λ can. taken can (state_of self.new)
-            ≡ machine.have_sig self.old.decs (levels_over self.old (before_goal begun.goal self.old.bindings)) (open_of begun self.old) place sort) }
+            ≡ machine.have_sig self.old.decs (levels_over self.old (before_goal begun.goal self.old.bindings))
+            (open_of begun self.old) place sort) }
     {
         match sort {
             Sort::Reserved(Word::KwWhere) => {
@@ -219,7 +232,7 @@ impl Reading {
     }
 
     /// Hands over a token behind an identifier that is a signature expression.
-    #[tactic(auto, unfolding(crate::specs::Machine::have_name))]
+    #[tactic(auto, unfolding(crate::specs::machine::Machine::have_name))]
     pub fn have_name(
         &mut self,
         alloc: Global,
@@ -229,7 +242,8 @@ impl Reading {
         sort: Sort,
     ) -> Result<bool, NoMemory>
         ensures value { IfOk result (λ can. taken can (state_of self.new)
-            ≡ machine.have_name self.old.decs (levels_over self.old (before_goal goal self.old.bindings)) (goal_of goal self.old.bindings) id place sort) }
+            ≡ machine.have_name self.old.decs (levels_over self.old (before_goal goal self.old.bindings))
+            (goal_of goal self.old.bindings) id place sort) }
     {
         if sort.is_strid() {
             self.two_names(alloc, goal, id, place)
@@ -245,7 +259,7 @@ impl Reading {
     }
 
     /// Hands over a token behind a part of a `where`.
-    #[tactic(auto, unfolding(crate::specs::Machine::have_part))]
+    #[tactic(auto, unfolding(crate::specs::machine::Machine::have_part))]
     pub fn have_part(
         &mut self,
         alloc: Global,
@@ -254,7 +268,8 @@ impl Reading {
         sort: Sort,
     ) -> Result<bool, NoMemory>
         ensures value { IfOk result (λ can. taken can (state_of self.new)
-            ≡ machine.have_part self.old.decs (levels_over self.old (before_goal begun.goal self.old.bindings)) (open_of begun self.old) place sort) }
+            ≡ machine.have_part self.old.decs (levels_over self.old (before_goal begun.goal self.old.bindings))
+            (open_of begun self.old) place sort) }
     {
         match sort {
             Sort::Reserved(Word::KwAnd) => {
@@ -266,7 +281,7 @@ impl Reading {
     }
 
     /// Hands over a token behind two or more identifiers of signatures.
-    #[tactic(auto, unfolding(crate::specs::Machine::includes))]
+    #[tactic(auto, unfolding(crate::specs::machine::Machine::includes))]
     pub fn includes(&mut self, alloc: Global, place: u32, sort: Sort) -> Result<bool, NoMemory>
         ensures value { IfOk result (λ can. taken can (state_of self.new)
             ≡ machine.includes self.old.decs (levels self.old) self.old.sigs place sort) }

@@ -1,20 +1,21 @@
 // The reading of a signature file, one token at a time.
 ghost use Rattle.std.specs.Prelude.{◌≡◌, ◌<◌, ◌^◌, IfOk, OnOk};
-ghost use Rattle.ty_parser.specs.Machine as types;
-ghost use Rattle.ty_parser.specs.Machine.{last_of, before_last, taken};
-ghost use Rattle.sig_parser.specs.Machine as machine;
-ghost use Rattle.sig_parser.specs.Machine.{At};
-ghost use Rattle.sig_parser.specs.Views.{state_of, levels_over, goal_of, open_of, owner_of, before_owner, step_outside, type_ended, ended_outside, file_of, parens_at};
+ghost use Rattle.ty_parser.specs.machine.Machine as types;
+ghost use Rattle.sig_base.specs.Stacks.{last_of, before_last};
+ghost use Rattle.ty_parser.specs.machine.Machine.{taken};
+ghost use Rattle.sig_parser.specs.machine.Machine as machine;
+ghost use Rattle.sig_parser.specs.machine.Machine.{At};
+ghost use Rattle.sig_parser.specs.machine.Views.{state_of, levels_over, goal_of, open_of, owner_of, before_owner, step_outside, type_ended, ended_outside, file_of, parens_at};
 
 use crate::point::{Goal, Group, Open, Owner, Point, Reading};
 use crate::sigs::{closed, name_of};
 use crate::tree::{Bind, ConDesc, SigExp, SourceFile, TopDec, TypeDesc, ValDesc, WherePart};
 use sig_base::NoMemory;
 use std::alloc::Global;
-use ty_parser::{Sort, TypeAt, one_more};
+use ty_parser::{Sort, TypeAt};
 
 // How many parentheses are open at a point.
-#[tactic(auto, unfolding(crate::specs::Machine::open_at))]
+#[tactic(auto, unfolding(crate::specs::machine::Machine::open_at))]
 fn parens(point: Point) -> u32
     ensures { result ≡ parens_at point }
 {
@@ -26,7 +27,7 @@ fn parens(point: Point) -> u32
 }
 
 impl Reading {
-    #[tactic(auto, unfolding(crate::specs::Machine::begin_type))]
+    #[tactic(auto, unfolding(crate::specs::machine::Machine::begin_type))]
     fn begin_type(
         &mut self,
         alloc: Global,
@@ -35,7 +36,8 @@ impl Reading {
         sort: Sort,
     ) -> Result<bool, NoMemory>
         ensures { IfOk result (λ can. taken can (state_of self.new)
-            ≡ machine.begin_type self.old.decs (levels_over self.old (before_owner owner self.old.bindings)) (owner_of owner self.old) place (types.step types.start (place, sort))) }
+            ≡ machine.begin_type self.old.decs (levels_over self.old (before_owner owner self.old.bindings))
+            (owner_of owner self.old) place (types.step types.start (place, sort))) }
     {
         self.reader.restart();
         self.point = Point::InType(owner, place);
@@ -45,7 +47,8 @@ impl Reading {
     // The point after a type.
     fn owned(&mut self, owner: Owner, ty: TypeAt) -> Result<(), NoMemory>
         ensures { OnOk result (state_of self.new
-            ≡ At self.old.decs (levels_over self.old (before_owner owner self.old.bindings)) (machine.owned (owner_of owner self.old) ty)) }
+            ≡ At self.old.decs (levels_over self.old (before_owner owner self.old.bindings))
+            (machine.owned (owner_of owner self.old) ty)) }
     {
         match owner {
             Owner::Val(id) => {
@@ -122,7 +125,7 @@ impl Reading {
         }
     }
 
-    #[tactic(auto, unfolding(crate::specs::Machine::behind_type))]
+    #[tactic(auto, unfolding(crate::specs::machine::Machine::behind_type))]
     fn behind_type(
         &mut self,
         alloc: Global,
@@ -132,7 +135,9 @@ impl Reading {
         sort: Sort,
     ) -> Result<bool, NoMemory>
         ensures { IfOk result (λ can. taken can (state_of self.new)
-            ≡ machine.behind_type self.old.decs (levels_over self.old (before_owner owner self.old.bindings)) (owner_of owner self.old) first (types.finish (types.state_of self.old.reader)) place sort) }
+            ≡ machine.behind_type self.old.decs (levels_over self.old (before_owner owner self.old.bindings))
+            (owner_of owner self.old) first (types.finish (types.state_of self.old.reader))
+            place sort) }
     {
         match self.reader.finish(alloc)? {
             None => Ok(false),
@@ -144,7 +149,7 @@ impl Reading {
     }
 
     /// Hands over the token with this number and sort; false exactly where it cannot stand there.
-    #[tactic(auto, unfolding(crate::specs::Machine::in_type))]
+    #[tactic(auto, unfolding(crate::specs::machine::Machine::in_type))]
     pub fn next(&mut self, alloc: Global, place: u32, sort: Sort) -> Result<bool, NoMemory>
         ensures value { IfOk result (λ can. taken can (state_of self.new)
             ≡ machine.step (state_of self.old) (place, sort)) }
@@ -196,8 +201,8 @@ impl Reading {
     {
         match goal {
             Goal::Binding(group, count, id) => {
-                self.bindings.push(Bind { id, rhs: sig })?;
-                self.ended_group(group, one_more(count)?)
+                let bindings = self.bindings.push_counted(count, Bind { id, rhs: sig })?;
+                self.ended_group(group, bindings)
             }
             Goal::Including => Ok(false),
         }
@@ -205,13 +210,14 @@ impl Reading {
 
     fn ended_open(&mut self, alloc: Global, begun: Open) -> Result<bool, NoMemory>
         ensures { IfOk result (λ can. taken can (file_of self.new)
-            ≡ machine.ended_sig self.old.decs (open_of begun self.old).goal (machine.sig_of (open_of begun self.old))) }
+            ≡ machine.ended_sig self.old.decs (open_of begun self.old).goal
+            (machine.sig_of (open_of begun self.old))) }
     {
         let sig = closed(alloc, begun, &mut self.body, &mut self.parts)?;
         self.ended_sig(begun.goal, sig)
     }
 
-    #[tactic(auto, unfolding(crate::specs::Machine::ended))]
+    #[tactic(auto, unfolding(crate::specs::machine::Machine::ended))]
     fn ended(&mut self, alloc: Global) -> Result<bool, NoMemory>
         ensures { IfOk result (λ can. taken can (file_of self.new) ≡ ended_outside (state_of self.old)) }
     {

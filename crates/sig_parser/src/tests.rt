@@ -1,183 +1,261 @@
 // Texts with the trees of their tokens, or the token at which they stop being a file or nest too deep.
 use crate::{
-    Bind, ConDesc, DataDesc, ParseRefusal, SigBase, SigExp, Spec, TopDec, TyExp, TypeAt, TypeDesc,
-    ValDesc, WherePart, parse_file,
+    Bind, ConDesc, DataDesc, ParseRefusal, SigBase, SigExp, SourceFile, Spec, TopDec, TyExp,
+    TypeAt, TypeDesc, ValDesc, WherePart, parse_file,
 };
 use sig_base::{NoMemory, Text};
 use sml_lexer::lex;
-use std::alloc::{AllocError, Global};
-use std::process::Abort;
+use std::alloc::Global;
 use std::test::Fail;
 
-fn show_numbers(alloc: Global, numbers: &[u32]) -> Result<String, AllocError> {
-    let mut shown = String::new(alloc);
-    for number in numbers {
-        shown.push_str(&format!(in alloc; " {number}")?)?;
+fn write_digit(out: &mut Text, n: u32) -> Result<(), NoMemory> {
+    out.push(b'0' + (n % 10) as u8)
+}
+
+// A number below 1000.
+fn write_number(out: &mut Text, n: u32) -> Result<(), NoMemory> {
+    if n >= 100 {
+        write_digit(out, n / 100)?;
     }
-    Ok(shown)
+    if n >= 10 {
+        write_digit(out, n / 10)?;
+    }
+    write_digit(out, n)
+}
+
+fn write_after_space(out: &mut Text, n: u32) -> Result<(), NoMemory> {
+    out.push(b' ')?;
+    write_number(out, n)
+}
+
+fn write_numbers(out: &mut Text, numbers: &[u32]) -> Result<(), NoMemory> {
+    for number in numbers {
+        write_after_space(out, *number)?;
+    }
+    Ok(())
+}
+
+fn write_params(out: &mut Text, params: &[u32]) -> Result<(), NoMemory> {
+    out.extend(b" (")?;
+    write_numbers(out, params)?;
+    out.push(b')')
+}
+
+fn write_count(out: &mut Text, count: usize, what: &[u8]) -> Result<(), NoMemory> {
+    write_number(out, (count % 1000) as u32)?;
+    out.extend(what)
 }
 
 // The first token of a type, and what kind of tree it has.
-fn show_type(alloc: Global, ty: &TypeAt) -> Result<String, AllocError> {
-    let first = ty.first;
+fn write_type(out: &mut Text, ty: &TypeAt) -> Result<(), NoMemory> {
+    write_number(out, ty.first)?;
+    out.push(b':')?;
     match &ty.ty {
-        TyExp::Var(place) => format!(in alloc; "{first}:'{place}"),
-        TyExp::Fields(fields) => format!(in alloc; "{first}:{} fields", fields.len()),
-        TyExp::Tuple(parts) => format!(in alloc; "{first}:{} parts", parts.len()),
-        TyExp::Arrows(sides) => format!(in alloc; "{first}:{} sides", sides.len()),
-        TyExp::Apply(_, constructors) => {
-            let constructors = show_numbers(alloc, constructors.as_slice())?;
-            format!(in alloc; "{first}:{constructors}")
+        TyExp::Var(place) => {
+            out.push(b'\'')?;
+            write_number(out, *place)
         }
+        TyExp::Fields(fields) => write_count(out, fields.len(), b" fields"),
+        TyExp::Tuple(parts) => write_count(out, parts.len(), b" parts"),
+        TyExp::Arrows(sides) => write_count(out, sides.len(), b" sides"),
+        TyExp::Apply(_, constructors) => write_numbers(out, constructors.as_slice()),
     }
 }
 
-fn show_maybe(alloc: Global, ty: &Option<TypeAt>) -> Result<String, AllocError> {
+fn write_meaning(out: &mut Text, ty: &TypeAt) -> Result<(), NoMemory> {
+    out.extend(b" = ")?;
+    write_type(out, ty)
+}
+
+fn write_maybe(out: &mut Text, ty: &Option<TypeAt>) -> Result<(), NoMemory> {
     match ty {
-        None => Ok(String::new(alloc)),
-        Some(ty) => {
-            let ty = show_type(alloc, ty)?;
-            format!(in alloc; " = {ty}")
-        }
+        None => Ok(()),
+        Some(ty) => write_meaning(out, ty),
     }
 }
 
-fn show_values(alloc: Global, values: &[ValDesc]) -> Result<String, AllocError> {
-    let mut shown = String::new(alloc);
+fn write_values(out: &mut Text, values: &[ValDesc]) -> Result<(), NoMemory> {
     for value in values {
-        let ty = show_type(alloc, &value.ty)?;
-        shown.push_str(&format!(in alloc; " {} = {ty},", value.id)?)?;
+        write_after_space(out, value.id)?;
+        write_meaning(out, &value.ty)?;
+        out.push(b',')?;
     }
-    Ok(shown)
+    Ok(())
 }
 
-fn show_types(alloc: Global, types: &[TypeDesc]) -> Result<String, AllocError> {
-    let mut shown = String::new(alloc);
+fn write_types(out: &mut Text, types: &[TypeDesc]) -> Result<(), NoMemory> {
     for ty in types {
-        let params = show_numbers(alloc, ty.params.as_slice())?;
-        let rhs = show_maybe(alloc, &ty.rhs)?;
-        shown.push_str(&format!(in alloc; " ({params}) {}{rhs},", ty.id)?)?;
+        write_params(out, ty.params.as_slice())?;
+        write_after_space(out, ty.id)?;
+        write_maybe(out, &ty.rhs)?;
+        out.push(b',')?;
     }
-    Ok(shown)
+    Ok(())
 }
 
-fn show_cons(alloc: Global, cons: &[ConDesc]) -> Result<String, AllocError> {
-    let mut shown = String::new(alloc);
+fn write_cons(out: &mut Text, cons: &[ConDesc]) -> Result<(), NoMemory> {
     for con in cons {
-        let arg = show_maybe(alloc, &con.arg)?;
-        shown.push_str(&format!(in alloc; " {}{arg}", con.id)?)?;
+        write_after_space(out, con.id)?;
+        write_maybe(out, &con.arg)?;
     }
-    Ok(shown)
+    Ok(())
 }
 
-fn show_datatypes(alloc: Global, datatypes: &[DataDesc]) -> Result<String, AllocError> {
-    let mut shown = String::new(alloc);
+fn write_datatypes(out: &mut Text, datatypes: &[DataDesc]) -> Result<(), NoMemory> {
     for data in datatypes {
-        let params = show_numbers(alloc, data.params.as_slice())?;
-        let cons = show_cons(alloc, data.cons.as_slice())?;
-        shown.push_str(&format!(in alloc; " ({params}) {}:{cons},", data.id)?)?;
+        write_params(out, data.params.as_slice())?;
+        write_after_space(out, data.id)?;
+        out.push(b':')?;
+        write_cons(out, data.cons.as_slice())?;
+        out.push(b',')?;
     }
-    Ok(shown)
+    Ok(())
 }
 
-fn show_parts(alloc: Global, parts: &[WherePart]) -> Result<String, AllocError> {
-    let mut shown = String::new(alloc);
+fn write_parts(out: &mut Text, parts: &[WherePart]) -> Result<(), NoMemory> {
     for part in parts {
-        let params = show_numbers(alloc, part.params.as_slice())?;
-        let ty = show_type(alloc, &part.ty)?;
-        shown.push_str(&format!(in alloc; " at {} ({params}) {} = {ty}", part.at, part.tycon)?)?;
+        out.extend(b" at")?;
+        write_after_space(out, part.at)?;
+        write_params(out, part.params.as_slice())?;
+        write_after_space(out, part.tycon)?;
+        write_meaning(out, &part.ty)?;
     }
-    Ok(shown)
+    Ok(())
 }
 
-#[cycle(show)]
-fn show_sig(alloc: Global, sig: &SigExp) -> Result<String, AllocError> {
-    let first = sig.first;
-    let parts = show_parts(alloc, sig.parts.as_slice())?;
-    match &sig.base {
-        SigBase::Name(id) => format!(in alloc; "{first}:name {id}{parts}"),
+#[cycle(write)]
+fn write_base(out: &mut Text, base: &SigBase) -> Result<(), NoMemory> {
+    match base {
+        SigBase::Name(id) => {
+            out.extend(b"name")?;
+            write_after_space(out, *id)
+        }
         SigBase::Body(specs) => {
-            let specs = show_specs(alloc, specs.as_slice())?;
-            format!(in alloc; "{first}:[{specs}]{parts}")
+            out.push(b'[')?;
+            write_specs(out, specs.as_slice())?;
+            out.push(b']')
         }
     }
 }
 
-#[cycle(show)]
-fn show_binds(alloc: Global, binds: &[Bind]) -> Result<String, AllocError> {
-    let mut shown = String::new(alloc);
+#[cycle(write)]
+fn write_sig(out: &mut Text, sig: &SigExp) -> Result<(), NoMemory> {
+    write_number(out, sig.first)?;
+    out.push(b':')?;
+    write_base(out, &sig.base)?;
+    write_parts(out, sig.parts.as_slice())
+}
+
+#[cycle(write)]
+fn write_binds(out: &mut Text, binds: &[Bind]) -> Result<(), NoMemory> {
     for bind in binds {
-        let rhs = show_sig(alloc, &bind.rhs)?;
-        shown.push_str(&format!(in alloc; " {} = {rhs},", bind.id)?)?;
+        write_after_space(out, bind.id)?;
+        out.extend(b" = ")?;
+        write_sig(out, &bind.rhs)?;
+        out.push(b',')?;
     }
-    Ok(shown)
+    Ok(())
 }
 
-#[cycle(show)]
-fn show_sigs(alloc: Global, sigs: &[SigExp]) -> Result<String, AllocError> {
-    let mut shown = String::new(alloc);
+#[cycle(write)]
+fn write_sigs(out: &mut Text, sigs: &[SigExp]) -> Result<(), NoMemory> {
     for sig in sigs {
-        let sig = show_sig(alloc, sig)?;
-        shown.push_str(&format!(in alloc; " {sig},")?)?;
+        out.push(b' ')?;
+        write_sig(out, sig)?;
+        out.push(b',')?;
     }
-    Ok(shown)
+    Ok(())
 }
 
-#[cycle(show)]
-fn show_specs(alloc: Global, specs: &[Spec]) -> Result<String, AllocError> {
-    let mut shown = String::new(alloc);
+#[cycle(write)]
+fn write_specs(out: &mut Text, specs: &[Spec]) -> Result<(), NoMemory> {
     for spec in specs {
-        let one = show_spec(alloc, spec)?;
-        shown.push_str(&format!(in alloc; "{one};")?)?;
+        out.extend(word(spec).as_bytes())?;
+        write_spec(out, spec)?;
+        out.push(b';')?;
     }
-    Ok(shown)
+    Ok(())
 }
 
-#[cycle(show)]
-fn show_spec(alloc: Global, spec: &Spec) -> Result<String, AllocError> {
-    let (word, shown) = match spec {
-        Spec::Val(values) => ("val", show_values(alloc, values.as_slice())?),
-        Spec::Abbrev(types) => ("type", show_types(alloc, types.as_slice())?),
-        Spec::Eqtype(types) => ("eqtype", show_types(alloc, types.as_slice())?),
-        Spec::Datatype(all) => ("datatype", show_datatypes(alloc, all.as_slice())?),
-        Spec::Replica(id, old) => ("replica", format!(in alloc; " {id} {old}")?),
-        Spec::Exception(cons) => ("exception", show_cons(alloc, cons.as_slice())?),
-        Spec::Structure(binds) => ("structure", show_binds(alloc, binds.as_slice())?),
-        Spec::Include(sigs) => ("include", show_sigs(alloc, sigs.as_slice())?),
-        Spec::SharingType(names) => ("sharing type", show_numbers(alloc, names.as_slice())?),
-        Spec::Sharing(names) => ("sharing", show_numbers(alloc, names.as_slice())?),
-    };
-    format!(in alloc; "{word}{shown}")
-}
-
-fn show_decs(alloc: Global, decs: &[TopDec]) -> Result<String, AllocError> {
-    let mut shown = String::new(alloc);
-    for dec in decs {
-        let (word, binds) = match dec {
-            TopDec::Signature(binds) => ("signature", binds),
-            TopDec::Structure(binds) => ("structure", binds),
-        };
-        let binds = show_binds(alloc, binds.as_slice())?;
-        shown.push_str(&format!(in alloc; "{word}{binds};")?)?;
-    }
-    Ok(shown)
-}
-
-fn show_refusal(alloc: Global, refusal: ParseRefusal) -> Result<String, AllocError> {
-    match refusal {
-        ParseRefusal::Syntax(place) => format!(in alloc; "stops at {place}"),
-        ParseRefusal::TooDeep(place) => format!(in alloc; "too deep at {place}"),
-        ParseRefusal::NoMemory => format!(in alloc; "no memory"),
+fn word(spec: &Spec) -> &str {
+    match spec {
+        Spec::Val(_) => "val",
+        Spec::Abbrev(_) => "type",
+        Spec::Eqtype(_) => "eqtype",
+        Spec::Datatype(_) => "datatype",
+        Spec::Replica(_, _) => "replica",
+        Spec::Exception(_) => "exception",
+        Spec::Structure(_) => "structure",
+        Spec::Include(_) => "include",
+        Spec::SharingType(_) => "sharing type",
+        Spec::Sharing(_) => "sharing",
     }
 }
 
-// What reading a text gives.
-fn outcome(rt: &impl Abort, alloc: Global, text: &[u8]) -> Result<String, Fail> {
-    assert!(rt; text.len() <= 4_194_304);
-    let tokens = lex(alloc, text)?;
-    match parse_file(alloc, text, tokens.as_slice()) {
-        Ok(file) => Ok(show_decs(alloc, file.decs.as_slice())?),
-        Err(refusal) => Ok(show_refusal(alloc, refusal)?),
+#[cycle(write)]
+fn write_spec(out: &mut Text, spec: &Spec) -> Result<(), NoMemory> {
+    match spec {
+        Spec::Val(values) => write_values(out, values.as_slice()),
+        Spec::Abbrev(types) | Spec::Eqtype(types) => write_types(out, types.as_slice()),
+        Spec::Datatype(all) => write_datatypes(out, all.as_slice()),
+        Spec::Replica(id, old) => write_numbers(out, &[*id, *old]),
+        Spec::Exception(cons) => write_cons(out, cons.as_slice()),
+        Spec::Structure(binds) => write_binds(out, binds.as_slice()),
+        Spec::Include(sigs) => write_sigs(out, sigs.as_slice()),
+        Spec::SharingType(names) | Spec::Sharing(names) => write_numbers(out, names.as_slice()),
+    }
+}
+
+fn write_dec(out: &mut Text, dec: &TopDec) -> Result<(), NoMemory> {
+    match dec {
+        TopDec::Signature(binds) => {
+            out.extend(b"signature")?;
+            write_binds(out, binds.as_slice())
+        }
+        TopDec::Structure(binds) => {
+            out.extend(b"structure")?;
+            write_binds(out, binds.as_slice())
+        }
+    }
+}
+
+fn write_file(out: &mut Text, file: &SourceFile) -> Result<(), NoMemory> {
+    for dec in file.decs.as_slice() {
+        write_dec(out, dec)?;
+        out.push(b';')?;
+    }
+    Ok(())
+}
+
+fn parsed(alloc: Global, text: &[u8]) -> Result<SourceFile, ParseRefusal> {
+    if text.len() > 4_194_304 {
+        return Err(ParseRefusal::NoMemory);
+    }
+    match lex(alloc, text) {
+        Ok(tokens) => parse_file(alloc, text, tokens.as_slice()),
+        Err(_) => Err(ParseRefusal::NoMemory),
+    }
+}
+
+fn write_found(out: &mut Text, found: &Result<SourceFile, ParseRefusal>) -> Result<(), NoMemory> {
+    match found {
+        Ok(file) => write_file(out, file),
+        Err(_) => out.extend(b"refused"),
+    }
+}
+
+// Whether this line is the tree of the text.
+fn gives(alloc: Global, text: &[u8], wanted: &[u8]) -> Result<bool, NoMemory> {
+    let mut out = Text::new(alloc);
+    write_found(&mut out, &parsed(alloc, text))?;
+    Ok(out.as_slice() == wanted)
+}
+
+// Whether the text stops being a file at this token.
+fn stops(alloc: Global, text: &[u8], at: u32) -> bool {
+    match parsed(alloc, text) {
+        Err(ParseRefusal::Syntax(place)) => place == at,
+        _ => false,
     }
 }
 
@@ -203,38 +281,58 @@ fn reads_declarations(rt: HostRuntime) -> Result<(), Fail> {
             "signature S = T where type t = int and u = int",
             "signature 1 = 3:name 3 at 4 () 6 = 8: 8, 10 = 12:name 12,;",
         ),
-        ("signature S = T signature", "stops at 5"),
-        ("signature S : T", "stops at 2"),
-        ("structure A = S", "stops at 2"),
-        ("signature s.S = T", "stops at 1"),
-        ("signature + = T", "stops at 1"),
-        ("signature S = T and type", "stops at 5"),
-        ("val x : int", "stops at 0"),
-        ("end", "stops at 0"),
-        ("signature S = sig", "stops at 4"),
-        ("signature S = sig end end", "stops at 5"),
-        ("signature S = T where t = int", "stops at 5"),
-        ("signature S = T where type t = ", "stops at 8"),
-        (
-            "structure A : S where type t = int and u = int",
-            "stops at 11",
-        ),
-        ("signature S = T where type * = int", "stops at 6"),
     ];
     for (text, want) in rows {
-        let got = outcome(&rt, rt.alloc(), text.as_bytes())?;
-        assert_eq!(rt; got.as_str(), want, "of {text}");
+        assert!(rt;
+            gives(rt.alloc(), text.as_bytes(), want.as_bytes())?,
+            "of {text}"
+        );
     }
     Ok(())
 }
 
-// What reading a body of these specifications gives, where `sig` is token 3.
-fn body_outcome(rt: &impl Abort, alloc: Global, specs: &[u8]) -> Result<String, Fail> {
+#[test]
+fn stops_in_declarations(rt: HostRuntime) -> Result<(), Fail> {
+    let rows = [
+        ("signature S = T signature", 5),
+        ("signature S : T", 2),
+        ("structure A = S", 2),
+        ("signature s.S = T", 1),
+        ("signature + = T", 1),
+        ("signature S = T and type", 5),
+        ("val x : int", 0),
+        ("end", 0),
+        ("signature S = sig", 4),
+        ("signature S = sig end end", 5),
+        ("signature S = T where t = int", 5),
+        ("signature S = T where type t = ", 8),
+        ("structure A : S where type t = int and u = int", 11),
+        ("signature S = T where type * = int", 6),
+    ];
+    for (text, place) in rows {
+        assert!(rt; stops(rt.alloc(), text.as_bytes(), place), "of {text}");
+    }
+    Ok(())
+}
+
+fn between(alloc: Global, before: &str, inside: &str, after: &str) -> Result<Text, NoMemory> {
     let mut text = Text::new(alloc);
-    text.extend(b"signature S = sig ".as_slice())?;
-    text.extend(specs)?;
-    text.extend(b" end".as_slice())?;
-    outcome(rt, alloc, text.as_slice())
+    text.extend(before.as_bytes())?;
+    text.extend(inside.as_bytes())?;
+    text.extend(after.as_bytes())?;
+    Ok(text)
+}
+
+// A body of these specifications, where `sig` is token 3.
+fn body(alloc: Global, specs: &str) -> Result<Text, NoMemory> {
+    between(alloc, "signature S = sig ", specs, " end")
+}
+
+// Whether the body of these specifications has this tree.
+fn body_gives(alloc: Global, specs: &str, tree: &str) -> Result<bool, NoMemory> {
+    let text = body(alloc, specs)?;
+    let wanted = between(alloc, "signature 1 = 3:[", tree, "],;")?;
+    gives(alloc, text.as_slice(), wanted.as_slice())
 }
 
 #[test]
@@ -271,11 +369,14 @@ fn reads_specifications(rt: HostRuntime) -> Result<(), Fail> {
         ("; ; type t ;", "type () 7,;"),
     ];
     for (text, want) in rows {
-        let got = body_outcome(&rt, rt.alloc(), text.as_bytes())?;
-        let want = format!(in rt.alloc(); "signature 1 = 3:[{want}],;")?;
-        assert_eq!(rt; got.as_str(), want.as_str(), "of {text}");
+        assert!(rt; body_gives(rt.alloc(), text, want)?, "of {text}");
     }
     Ok(())
+}
+
+fn body_stops(alloc: Global, specs: &str, at: u32) -> Result<bool, NoMemory> {
+    let text = body(alloc, specs)?;
+    Ok(stops(alloc, text.as_slice(), at))
 }
 
 #[test]
@@ -317,27 +418,37 @@ fn stops_in_specifications(rt: HostRuntime) -> Result<(), Fail> {
         ("signature T = S", 4),
     ];
     for (text, place) in rows {
-        let got = body_outcome(&rt, rt.alloc(), text.as_bytes())?;
-        let want = format!(in rt.alloc(); "stops at {place}")?;
-        assert_eq!(rt; got.as_str(), want.as_str(), "of {text}");
+        assert!(rt; body_stops(rt.alloc(), text, place)?, "of {text}");
+    }
+    Ok(())
+}
+
+fn push_often(text: &mut Text, bytes: &[u8], count: u32) -> Result<(), NoMemory> {
+    for _ in 0..count {
+        text.extend(bytes)?;
     }
     Ok(())
 }
 
 // `signature S =`, so many `sig structure A :`, then a body of which these are the specifications.
-fn nested(alloc: Global, depth: u32, specs: &[u8]) -> Result<Text, NoMemory> {
-    let mut text = Text::new(alloc);
-    text.extend(b"signature S = ".as_slice())?;
-    for _ in 0..depth {
-        text.extend(b"sig structure A : ".as_slice())?;
-    }
-    text.extend(b"sig ".as_slice())?;
-    text.extend(specs)?;
-    for _ in 0..depth {
-        text.extend(b" end".as_slice())?;
-    }
-    text.extend(b" end".as_slice())?;
+fn nested(alloc: Global, depth: u32, specs: &str) -> Result<Text, NoMemory> {
+    let mut text = Text::from_slice(alloc, b"signature S = ")?;
+    push_often(&mut text, b"sig structure A : ", depth)?;
+    text.extend(b"sig ")?;
+    text.extend(specs.as_bytes())?;
+    push_often(&mut text, b" end", depth)?;
+    text.extend(b" end")?;
     Ok(text)
+}
+
+// The token that is too deep, if there is one.
+fn too_deep(alloc: Global, depth: u32, specs: &str) -> Result<Option<u32>, ParseRefusal> {
+    let text = nested(alloc, depth, specs)?;
+    match parsed(alloc, text.as_slice()) {
+        Ok(_) => Ok(None),
+        Err(ParseRefusal::TooDeep(place)) => Ok(Some(place)),
+        Err(refusal) => Err(refusal),
+    }
 }
 
 #[test]
@@ -353,18 +464,10 @@ fn counts_what_is_open(rt: HostRuntime) -> Result<(), Fail> {
         (198, "val x : int type t = (int) type ('a) u", None),
     ];
     for (depth, specs, deep) in rows {
-        let text = nested(rt.alloc(), depth, specs.as_bytes())?;
-        let got = outcome(&rt, rt.alloc(), text.as_slice())?;
-        match deep {
-            None => assert!(rt;
-                got.starts_with("signature 1 = 3:["),
-                "{depth} around {specs}"
-            ),
-            Some(place) => {
-                let want = format!(in rt.alloc(); "too deep at {place}")?;
-                assert_eq!(rt; got.as_str(), want.as_str(), "{depth} around {specs}");
-            }
-        }
+        assert!(rt;
+            too_deep(rt.alloc(), depth, specs)? == deep,
+            "{depth} around {specs}"
+        );
     }
     Ok(())
 }

@@ -1,15 +1,16 @@
 -- A text has one reading: one list of tokens, or one cause at one place for which reading stops.
 use Rattle.std.proofs.Common.{◌≡◌, ℕ, ◌+◌, ◌<◌, ◌≤◌, List, [], ◌∷◌, length, slice_index, refl, ap, sym, subst, arith}
-use Rattle.std.specs.List.{All}
+use Rattle.std.specs.List.{All, between}
 use Rattle.std.proofs.lemmas.List.{get_or_past}
 use Rattle.std.proofs.lemmas.List.Elements.{All-nil, All-cons, All-weaker}
+use Rattle.sig_base.specs.LongIdentifiers.{HasShortParts}
 use Rattle.sml_lexer.specs.declared.token.LexRefusal.{LexRefusal}
 use Rattle.sml_lexer.specs.declared.token.LexRefusal.TheVariants as refusal
 use Rattle.sml_lexer.specs.declared.token.Token.{Token}
 use Rattle.sml_lexer.specs.declared.token.TokenKind.{TokenKind}
 use Rattle.sml_lexer.specs.Comments.{OpensAt, IsNeverClosed}
 use Rattle.sml_lexer.specs.Refusals.{IsReached, IsBadByte, IsOpenComment, IsLongName, Refuses}
-use Rattle.sml_lexer.specs.Tokens.{IsSeparator, IsShort, IsTokenAt, IsGap, no_gap, a_separator, a_comment, Reads, tokens, AreInOrder}
+use Rattle.sml_lexer.specs.Tokens.{IsSeparator, IsTokenAt, IsGap, no_gap, a_separator, a_comment, Reads, text_of, tokens, AreInOrder}
 use Rattle.sml_lexer.proofs.Sorts.{sort, sort-letter, sort-symbol, sort-digit, sort-separator}
 use Rattle.sml_lexer.proofs.Shapes.{Shape, a_word, a_long, a_symbol, a_variable, a_numeral, a_mark, the_dots, stands_shape}
 use Rattle.sml_lexer.proofs.Maximal.{apart}
@@ -35,7 +36,7 @@ NoGapFrom bytes at = (IsSeparator (slice_index bytes at) → ⊥) × IsNeverClos
 
 -- nor does a token that is read
 abbrev Stops : List ℕ → ℕ → Type 0
-Stops bytes at = NoGapFrom bytes at × ((kind : TokenKind) (end : ℕ) → IsTokenAt bytes kind at end → IsShort bytes kind at end → ⊥)
+Stops bytes at = NoGapFrom bytes at × ((kind : TokenKind) (end : ℕ) → IsTokenAt bytes kind at end → ¬ (HasShortParts (between at end bytes)))
 
 opens_no_separator : (b : ℕ) → b ≡ 40 → IsSeparator b → ⊥
 opens_no_separator b e h = apart b 5 0 (ap sort e) (sort-separator b h) (λ e. omega arith)
@@ -56,12 +57,12 @@ token_ends_gap : (bytes : List ℕ) (kind : TokenKind) (start end : ℕ) → IsT
 token_ends_gap bytes kind start end token = (token_separates bytes kind start end token, λ further k. token.1 (comment_opens bytes k))
 
 -- nothing stops before a token
-no_stop : (bytes : List ℕ) (from a : ℕ) (u : Token) → IsGap bytes from a → Stops bytes a → IsGap bytes from u.span.start → IsTokenAt bytes u.kind u.span.start u.span.end → IsShort bytes u.kind u.span.start u.span.end → ⊥
+no_stop : (bytes : List ℕ) (from a : ℕ) (u : Token) → IsGap bytes from a → Stops bytes a → IsGap bytes from u.span.start → IsTokenAt bytes u.kind u.span.start u.span.end → HasShortParts (text_of bytes u) → ⊥
 no_stop bytes from a u gap stop more token short =
     let same : u.span.start ≡ a = gap_same (token_ends_gap bytes u.kind u.span.start u.span.end token) stop.0 more gap in
     stop.1 u.kind u.span.end
     (subst (λ (n : ℕ). IsTokenAt bytes u.kind n u.span.end) same token)
-    (subst (λ (n : ℕ). IsShort bytes u.kind n u.span.end) same short)
+    (subst (λ (n : ℕ). HasShortParts (between n u.span.end bytes)) same short)
 
 token_same : (bytes : List ℕ) (from : ℕ) (t u : Token) → IsGap bytes from t.span.start → IsTokenAt bytes t.kind t.span.start t.span.end → IsGap bytes from u.span.start → IsTokenAt bytes u.kind u.span.start u.span.end → t ≡ u
 token_same bytes from t u s p r q =
@@ -105,8 +106,7 @@ long_name_stops bytes at h = (
   token_ends_gap bytes h.kind at h.end h.token,
   λ kind end token short.
       let end_is : end ≡ h.end = one_end bytes kind h.kind at end h.end token.0 h.token.0 in
-      let kind_is : kind ≡ h.kind = one_kind bytes kind h.kind at end h.end token.0 h.token.0 in
-      h.long (subst (λ (n : ℕ). IsShort bytes h.kind at n) end_is (subst (λ (k : TokenKind). IsShort bytes k at end) kind_is short)),
+      h.long (subst (λ (n : ℕ). HasShortParts (between at n bytes)) end_is short),
 )
 
 -- reading stops at one place
@@ -160,7 +160,7 @@ one_refusal bytes refusal.NoMemory q h k = absurd h
 
 -- the token at its place, with no part of more than 255 bytes
 abbrev IsRead : List ℕ → Token → Type 0
-IsRead bytes t = IsTokenAt bytes t.kind t.span.start t.span.end × IsShort bytes t.kind t.span.start t.span.end
+IsRead bytes t = IsTokenAt bytes t.kind t.span.start t.span.end × HasShortParts (text_of bytes t)
 
 reads_each : (bytes : List ℕ) (from : ℕ) (ts : List Token) (to : ℕ) → Reads bytes from ts to → All (IsRead bytes) ts
 reads_each bytes from [] to r = All-nil (IsRead bytes)

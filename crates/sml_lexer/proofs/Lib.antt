@@ -1,12 +1,12 @@
 pub mod Sorts
 pub mod Runs
+pub mod LongPlaces
 pub mod Shapes
 pub mod Maximal
 pub mod Parts
 pub mod Marks
 pub mod OneKind
 pub mod Nesting
-pub mod Dots
 pub mod Reading
 pub mod Laws
 pub mod Lines

@@ -6,10 +6,12 @@ use Rattle.std.proofs.lemmas.List.Edits.{length-between}
 use Rattle.sig_base.specs.Identifiers.{IsLetter, IsDigit, IsAlphanumericByte, IsSymbolicByte, spelling}
 use Rattle.sig_base.specs.declared.word.Word.{Word}
 use Rattle.sig_base.specs.declared.word.Word.TheVariants as word
+use Rattle.sig_base.proofs.WordBytes.{numeral_word}
 use Rattle.sml_lexer.specs.declared.token.TokenKind.TheVariants as kind
 use Rattle.sml_lexer.specs.Tokens.{IsLongestAt}
 use Rattle.sml_lexer.specs.Steps.{NothingAt}
 use Rattle.sml_lexer.proofs.Sorts.{sort, sort-letter, sort-symbol, sort-digit}
+use Rattle.sml_lexer.proofs.LongPlaces.{stands_long}
 use Rattle.sml_lexer.proofs.Runs.{led_text}
 use Rattle.sml_lexer.proofs.Shapes.{Shape, a_word, a_long, a_symbol, a_variable, a_numeral, a_mark, the_dots, stands_shape, dots_led, long_letter}
 use Rattle.sml_lexer.proofs.Maximal.{apart}
@@ -76,7 +78,7 @@ module _ (bytes : List ℕ) (at : ℕ) where
     no_mark none kind.TyVar end within h = no_prime (led_text (λ b. b ≡ 39) IsAlphanumericByte bytes at end within h).head
     no_mark none kind.Alpha end within h = no_letter (led_text IsLetter IsAlphanumericByte bytes at end within h.0).head
     no_mark none kind.Sym end within h = no_symbol (led_text IsSymbolicByte IsSymbolicByte bytes at end within h.0).head
-    no_mark none kind.Long end within h = no_letter (long_letter bytes at end within h)
+    no_mark none kind.Long end within h = no_letter (long_letter bytes at end within (stands_long bytes at end within h))
     no_mark none kind.Num end within h =
-        let led = led_text (λ b. (49 ≤ b) × (b ≤ 57)) IsDigit bytes at end within h in
+        let led = led_text (λ b. (49 ≤ b) × (b ≤ 57)) IsDigit bytes at end within (numeral_word (between at end bytes) h) in
         no_digit led.head.0 led.head.1

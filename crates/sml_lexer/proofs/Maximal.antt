@@ -1,23 +1,20 @@
 -- What is the longest at a place.
 use Rattle.std.proofs.Common.{◌≡◌, ℕ, ◌+◌, ◌<◌, ◌≤◌, List, length, slice_index, ap, sym, ◌∙◌, arith}
+use Rattle.std.specs.List.{between}
 use Rattle.sig_base.specs.Identifiers.{IsLetter, IsDigit, IsAlphanumericByte, IsSymbolicByte}
+use Rattle.sig_base.proofs.WordBytes.{word_numeral}
 use Rattle.sml_lexer.specs.declared.token.TokenKind.{TokenKind}
 use Rattle.sml_lexer.specs.declared.token.TokenKind.TheVariants as kind
-use Rattle.sml_lexer.specs.Tokens.{StandsAt, IsLongAt, IsAlphanumericAt, IsSymbolicAt, IsLongestAt}
+use Rattle.sml_lexer.specs.Tokens.{StandsAt, IsLongestAt}
+use Rattle.sml_lexer.specs.LongPlaces.{IsLongAt}
 use Rattle.sml_lexer.proofs.Sorts.{sort, sort-letter, sort-symbol, sort-digit}
-use Rattle.sml_lexer.proofs.Runs.{Led, led_text, text_led}
+use Rattle.sml_lexer.proofs.Runs.{Led, text_led}
 use Rattle.sml_lexer.proofs.Shapes.{Shape, a_word, a_long, a_symbol, a_variable, a_numeral, a_mark, the_dots, stands_shape}
 
 pub apart : (b m n : ℕ) → sort b ≡ m → sort b ≡ n → (m ≡ n → ⊥) → ⊥
 apart b m n p q differ = differ (sym p ∙ q)
 
 module _ (bytes : List ℕ) (at : ℕ) where
-  pub word_led : {end : ℕ} → IsAlphanumericAt bytes at end → Led IsLetter IsAlphanumericByte bytes at end
-  word_led {end} a = led_text IsLetter IsAlphanumericByte bytes at end a.within a.identifier.0
-
-  pub symbol_led : {end : ℕ} → IsSymbolicAt bytes at end → Led IsSymbolicByte IsSymbolicByte bytes at end
-  symbol_led {end} s = led_text IsSymbolicByte IsSymbolicByte bytes at end s.within s.identifier.0
-
   -- two longest runs from one place end at one place
   pub run_same : (first rest : ℕ → Type 0) (end other : ℕ) → end ≤ length bytes → other ≤ length bytes → Led first rest bytes at end → Led first rest bytes at other → (end < length bytes → rest (slice_index bytes end) → ⊥) → (other < length bytes → rest (slice_index bytes other) → ⊥) → end ≡ other
   run_same first rest end other within within' led led' whole whole' =
@@ -87,6 +84,6 @@ module _ (bytes : List ℕ) (at : ℕ) where
   numeral_longest end within order low high run whole = record {
     begins = omega arith;
     within = within;
-    stands = text_led (λ b. (49 ≤ b) × (b ≤ 57)) IsDigit bytes at end within (record { begins = omega arith; head = (low, high); tail = run });
+    stands = word_numeral (between at end bytes) (text_led (λ b. (49 ≤ b) × (b ≤ 57)) IsDigit bytes at end within (record { begins = omega arith; head = (low, high); tail = run }));
     longest = λ other further past inside there. numeral_shape end further low high (omega arith) whole past inside (stands_shape bytes at further inside other there);
   }

@@ -11,13 +11,15 @@ use Rattle.std.proofs.lemmas.List.Folds.{list_any_at, list_any_none}
 use Rattle.sig_base.specs.Identifiers.{IsLetter, IsDigit, IsAlphanumericByte, IsSymbolicByte, OneThen, IsUnreserved, spelling}
 use Rattle.sig_base.specs.declared.word.Word.{Word}
 use Rattle.sig_base.specs.declared.word.Word.TheVariants as word
+use Rattle.sig_base.proofs.WordBytes.{letter_alphanumeric, numeral_word}
 use Rattle.sml_lexer.specs.declared.token.TokenKind.{TokenKind}
 use Rattle.sml_lexer.specs.declared.token.TokenKind.TheVariants as kind
-use Rattle.sml_lexer.specs.Tokens.{StandsAt, IsLongAt, last_part, more_parts, IsLongestAt, IsIdentifierAt}
+use Rattle.sml_lexer.specs.Tokens.{StandsAt, IsLongestAt}
+use Rattle.sml_lexer.specs.LongPlaces.{IsLongAt, last_part, more_parts}
+use Rattle.sml_lexer.proofs.LongPlaces.{identifier_begins, long_begins, stands_long, word_led}
 use Rattle.sml_lexer.proofs.Sorts.{sort, sort-letter, sort-symbol, sort-digit, dot-not_alphanumeric}
 use Rattle.sml_lexer.proofs.Runs.{between_cons}
 use Rattle.sml_lexer.proofs.Shapes.{long_letter}
-use Rattle.sml_lexer.proofs.Maximal.{word_led, symbol_led}
 
 abbrev words : List Word
 words =
@@ -109,7 +111,7 @@ symbol_kind (b ∷ text) h free =
 dotless : (text : List ℕ) → OneThen IsLetter IsAlphanumericByte text → dotted text ≡ false
 dotless [] h = absurd h
 dotless (b ∷ text) h =
-    let first : eqb b 46 ≡ false = ne_eqb b 46 (λ e. dot-not_alphanumeric b e (inl h.0)) in
+    let first : eqb b 46 ≡ false = ne_eqb b 46 (λ e. dot-not_alphanumeric b e (letter_alphanumeric b h.0)) in
     let rest : dotted text ≡ false = list_any_none (λ c. eqb c 46) text (All-weaker IsAlphanumericByte (λ c. eqb c 46 ≡ false) (λ c k. ne_eqb c 46 (λ e. dot-not_alphanumeric c e k)) text h.1) in
     rw (first, rest) refl
 
@@ -126,20 +128,6 @@ long_kind text s d =
     kind_of-free text free ∙ letter_sorted text true s d
 
 module _ (bytes : List ℕ) where
-  identifier_begins : (start end : ℕ) → IsIdentifierAt bytes start end → (start < end) × (end ≤ length bytes)
-  identifier_begins start end (inl a) = ((word_led bytes start a).begins, a.within)
-  identifier_begins start end (inr s) = ((symbol_led bytes start s).begins, s.within)
-
-  long_begins : {start end : ℕ} → IsLongAt bytes start end → start < end
-  long_begins (last_part {start} {dot} {end} a e i) =
-      let first : start < dot = (word_led bytes start a).begins in
-      let rest : dot + 1 < end = (identifier_begins (dot + 1) end i).0 in
-      omega arith
-  long_begins (more_parts {start} {dot} {end} a e l) =
-      let first : start < dot = (word_led bytes start a).begins in
-      let rest : dot + 1 < end = long_begins l in
-      omega arith
-
   dot_within : (start dot end : ℕ) → start < dot → dot + 1 < end → end ≤ length bytes → slice_index bytes dot ≡ 46 → dotted (between start end bytes) ≡ true
   dot_within start dot end first rest within e =
       let size : length (between start end bytes) ≡ end - start = length-between bytes start end within in
@@ -149,8 +137,8 @@ module _ (bytes : List ℕ) where
       list_any_at (λ c. eqb c 46) (between start end bytes) (dot - start) 0 (omega (arith, size)) (eq-eqb _ 46 (at ∙ (ap (λ (k : ℕ). slice_index bytes k) place ∙ e)))
 
   long_dotted : {start end : ℕ} → end ≤ length bytes → IsLongAt bytes start end → dotted (between start end bytes) ≡ true
-  long_dotted within (last_part {start} {dot} {end} a e i) = dot_within start dot end (word_led bytes start a).begins (identifier_begins (dot + 1) end i).0 within e
-  long_dotted within (more_parts {start} {dot} {end} a e l) = dot_within start dot end (word_led bytes start a).begins (long_begins l) within e
+  long_dotted within (last_part {start} {dot} {end} a e i) = dot_within start dot end (word_led bytes start a).begins (identifier_begins bytes (dot + 1) end i).0 within e
+  long_dotted within (more_parts {start} {dot} {end} a e l) = dot_within start dot end (word_led bytes start a).begins (long_begins bytes l) within e
 
   opens-between : (start end : ℕ) → start < end → end ≤ length bytes → opens (between start end bytes) ≡ sort (slice_index bytes start)
   opens-between start end begins within = ap opens (between_cons bytes start end begins (omega arith))
@@ -161,10 +149,11 @@ module _ (bytes : List ℕ) where
   kind_stands kind.Alpha start end within h = alphanumeric_kind (between start end bytes) h.0 h.1
   kind_stands kind.Sym start end within h = symbol_kind (between start end bytes) h.0 h.1
   kind_stands kind.Long start end within h =
+      let l = stands_long bytes start end within h in
       long_kind (between start end bytes)
-      (opens-between start end (long_begins h) within ∙ sort-letter (slice_index bytes start) (long_letter bytes start end within h))
-      (long_dotted within h)
-  kind_stands kind.Num start end within h = numeral_kind (between start end bytes) h
+      (opens-between start end (long_begins bytes l) within ∙ sort-letter (slice_index bytes start) (long_letter bytes start end within l))
+      (long_dotted within l)
+  kind_stands kind.Num start end within h = numeral_kind (between start end bytes) (numeral_word (between start end bytes) h)
 
   pub one_end : (a b : TokenKind) (start end further : ℕ) → IsLongestAt bytes a start end → IsLongestAt bytes b start further → end ≡ further
   one_end a b start end further t u =

@@ -5,13 +5,15 @@ use Rattle.sig_base.specs.Identifiers.{IsLetter, IsAlphanumericByte, IsSymbolicB
 use Rattle.sig_base.specs.declared.word.Word.{Word}
 use Rattle.sml_lexer.specs.declared.token.TokenKind.{TokenKind}
 use Rattle.sml_lexer.specs.declared.token.TokenKind.TheVariants as kind
-use Rattle.sml_lexer.specs.Tokens.{StandsAt, IsLongAt, last_part, more_parts, IsAlphanumericAt, IsSymbolicAt, IsIdentifierAt, IsLongestAt}
-use Rattle.sml_lexer.specs.Steps.{NoIdentifierAt, IsPartAt}
+use Rattle.sml_lexer.specs.Tokens.{StandsAt, IsLongestAt}
+use Rattle.sml_lexer.specs.LongPlaces.{IsAlphanumericAt, IsIdentifierAt, IsLongAt, IsSymbolicAt, last_part, more_parts}
+use Rattle.sml_lexer.specs.Steps.{IsPartAt, NoIdentifierAt}
+use Rattle.sml_lexer.proofs.LongPlaces.{symbol_led, word_led}
 use Rattle.sml_lexer.specs.declared.longest.Part.{Part}
 use Rattle.sml_lexer.specs.declared.longest.Part.TheVariants.{Alphanumeric, Symbolic}
 use Rattle.sml_lexer.proofs.Sorts.{sort-letter, sort-symbol}
 use Rattle.sml_lexer.proofs.Runs.{Led, text_led}
-use Rattle.sml_lexer.proofs.Maximal.{apart, word_led, symbol_led, run_same, letter_on}
+use Rattle.sml_lexer.proofs.Maximal.{apart, run_same, letter_on}
 
 letter_no_symbol : (b : ℕ) → IsLetter b → IsSymbolicByte b → ⊥
 letter_no_symbol b h k = apart b 1 2 (sort-letter b h) (sort-symbol b k) (λ e. omega arith)

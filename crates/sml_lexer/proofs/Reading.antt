@@ -1,12 +1,14 @@
 -- What each step of `lex` keeps, and what it gives at the end.
 use Rattle.std.proofs.Common.{◌≡◌, ℕ, ◌+◌, ◌<◌, ◌≤◌, List, [], ◌∷◌, ◌++◌, length, slice_index, sym, subst, arith}
+use Rattle.std.specs.List.{between}
+use Rattle.sig_base.specs.LongIdentifiers.{HasShortParts}
 use Rattle.sml_lexer.specs.declared.token.LexRefusal.TheVariants as refusal
 use Rattle.sml_lexer.specs.declared.token.Token.{Token}
 use Rattle.sml_lexer.specs.declared.token.TokenKind.{TokenKind}
 use Rattle.sml_lexer.specs.Comments.{OpensAt, IsCommentAt, IsNeverClosed}
 use Rattle.sml_lexer.specs.Refusals.{Refuses}
 use Rattle.sml_lexer.specs.Steps.{NothingAt}
-use Rattle.sml_lexer.specs.Tokens.{IsSeparator, IsShort, IsLongestAt, IsTokenAt, IsGap, no_gap, a_separator, a_comment, Reads}
+use Rattle.sml_lexer.specs.Tokens.{IsSeparator, IsLongestAt, IsTokenAt, IsGap, no_gap, a_separator, a_comment, Reads, text_of}
 use Rattle.sml_lexer.proofs.Nesting.{comment_order, comment_within}
 
 module _ (bytes : List ℕ) where
@@ -38,7 +40,7 @@ module _ (bytes : List ℕ) where
   pub reads_comment : (from : ℕ) (ts : List Token) (at end : ℕ) → Reads bytes from ts at → IsCommentAt bytes at end → Reads bytes from ts end
   reads_comment from ts at end r k = reads_gap from ts at end r (a_comment k (no_gap (comment_within bytes k)))
 
-  pub reads_push : (from : ℕ) (ts : List Token) (t : Token) → Reads bytes from ts t.span.start → IsTokenAt bytes t.kind t.span.start t.span.end → IsShort bytes t.kind t.span.start t.span.end → Reads bytes from (ts ++ t ∷ []) t.span.end
+  pub reads_push : (from : ℕ) (ts : List Token) (t : Token) → Reads bytes from ts t.span.start → IsTokenAt bytes t.kind t.span.start t.span.end → HasShortParts (text_of bytes t) → Reads bytes from (ts ++ t ∷ []) t.span.end
   reads_push from [] t r token short = (r, token, short, no_gap token.0.within)
   reads_push from (u ∷ us) t r token short = (r.0, r.1, r.2, reads_push u.span.end us t r.3 token short)
 
@@ -65,7 +67,7 @@ module _ (bytes : List ℕ) where
   pub open_comment_refused : (before : List Token) (at : ℕ) → Reads bytes 0 before at → OpensAt bytes at → IsNeverClosed bytes at → Refuses bytes (refusal.OpenComment at)
   open_comment_refused before at r opens none = ((before, r), (opens, none))
 
-  pub long_name_refused : (before : List Token) (at : ℕ) (kind : TokenKind) (end : ℕ) → Reads bytes 0 before at → IsLongestAt bytes kind at end → (OpensAt bytes at → ⊥) → (IsShort bytes kind at end → ⊥) → Refuses bytes (refusal.LongName at)
+  pub long_name_refused : (before : List Token) (at : ℕ) (kind : TokenKind) (end : ℕ) → Reads bytes 0 before at → IsLongestAt bytes kind at end → (OpensAt bytes at → ⊥) → ¬ (HasShortParts (between at end bytes)) → Refuses bytes (refusal.LongName at)
   long_name_refused before at kind end r longest no_comment long = (
     (before, r),
     record {

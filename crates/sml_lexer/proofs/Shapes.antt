@@ -4,13 +4,16 @@ use Rattle.std.specs.Prelude.{codes}
 use Rattle.std.specs.List.{between, list_all}
 use Rattle.std.proofs.lemmas.Bool.{and_parts, or_cases, false≢true}
 use Rattle.std.proofs.lemmas.List.Elements.{All-nil, All-cons}
-use Rattle.sig_base.specs.Identifiers.{IsLetter, IsDigit, IsAlphanumericByte, IsSymbolicByte, OneThen, spelling}
+use Rattle.sig_base.specs.Identifiers.{IsLetter, IsDigit, IsAlphanumericByte, IsSymbolicByte, OneThen, is_alphanumeric_byte, is_letter, spelling}
+use Rattle.sig_base.proofs.WordBytes.{numeral_word}
 use Rattle.sig_base.specs.declared.word.Word.{Word}
 use Rattle.sig_base.specs.declared.word.Word.TheVariants as word
 use Rattle.sml_lexer.specs.declared.token.TokenKind.{TokenKind}
 use Rattle.sml_lexer.specs.declared.token.TokenKind.TheVariants as kind
-use Rattle.sml_lexer.specs.Tokens.{StandsAt, IsLongAt, last_part, more_parts}
-use Rattle.sml_lexer.proofs.Sorts.{letter, alphanumeric, symbol, one_mark, sort, letter_tested, alphanumeric_tested, symbol_tested, sort-mark, all_tested}
+use Rattle.sml_lexer.specs.Tokens.{StandsAt}
+use Rattle.sml_lexer.specs.LongPlaces.{IsLongAt, last_part, more_parts}
+use Rattle.sml_lexer.proofs.LongPlaces.{stands_long, word_led}
+use Rattle.sml_lexer.proofs.Sorts.{symbol, one_mark, sort, symbol_tested, sort-mark, all_tested}
 use Rattle.sml_lexer.proofs.Runs.{Led, led_text}
 
 -- what stands from `at` to `end`
@@ -32,17 +35,17 @@ run_tested p q P Q first rest [] h = absurd (false≢true h)
 run_tested p q P Q first rest (b ∷ text) h = let k = and_parts _ _ h in (first b k.0, all_tested q Q rest text k.1)
 
 abbrev spelled : List ℕ → Bool
-spelled text = run letter alphanumeric text || (run symbol symbol text || run one_mark (λ _. false) text)
+spelled text = run is_letter is_alphanumeric_byte text || (run symbol symbol text || run one_mark (λ _. false) text)
 
-spelled_cases : (text : List ℕ) → (run letter alphanumeric text ≡ true) ⊎ ((run symbol symbol text || run one_mark (λ _. false) text) ≡ true) → (run letter alphanumeric text ≡ true) ⊎ ((run symbol symbol text ≡ true) ⊎ (run one_mark (λ _. false) text ≡ true))
+spelled_cases : (text : List ℕ) → (run is_letter is_alphanumeric_byte text ≡ true) ⊎ ((run symbol symbol text || run one_mark (λ _. false) text) ≡ true) → (run is_letter is_alphanumeric_byte text ≡ true) ⊎ ((run symbol symbol text ≡ true) ⊎ (run one_mark (λ _. false) text ≡ true))
 spelled_cases text (inl h) = inl h
 spelled_cases text (inr h) = inr (or_cases _ _ h)
 
 module _ (bytes : List ℕ) (at end : ℕ) (within : end ≤ length bytes) where
-  text_shape : (text : List ℕ) → between at end bytes ≡ text → (run letter alphanumeric text ≡ true) ⊎ ((run symbol symbol text ≡ true) ⊎ (run one_mark (λ _. false) text ≡ true)) → Shape bytes at end
+  text_shape : (text : List ℕ) → between at end bytes ≡ text → (run is_letter is_alphanumeric_byte text ≡ true) ⊎ ((run symbol symbol text ≡ true) ⊎ (run one_mark (λ _. false) text ≡ true)) → Shape bytes at end
   text_shape text e (inl h) =
       a_word (led_text IsLetter IsAlphanumericByte bytes at end within
-      (subst (OneThen IsLetter IsAlphanumericByte) (sym e) (run_tested letter alphanumeric IsLetter IsAlphanumericByte letter_tested alphanumeric_tested text h)))
+      (subst (OneThen IsLetter IsAlphanumericByte) (sym e) (run_tested is_letter is_alphanumeric_byte IsLetter IsAlphanumericByte (λ b k. k) (λ b k. k) text h)))
   text_shape text e (inr (inl h)) =
       a_symbol (led_text IsSymbolicByte IsSymbolicByte bytes at end within
       (subst (OneThen IsSymbolicByte IsSymbolicByte) (sym e) (run_tested symbol symbol IsSymbolicByte IsSymbolicByte symbol_tested symbol_tested text h)))
@@ -63,13 +66,13 @@ module _ (bytes : List ℕ) (at end : ℕ) (within : end ≤ length bytes) where
   reserved_shape w e = spelled_shape (spelling w) refl e
 
   pub long_letter : IsLongAt bytes at end → IsLetter (slice_index bytes at)
-  long_letter (last_part a dot i) = (led_text IsLetter IsAlphanumericByte bytes at _ a.within a.identifier.0).head
-  long_letter (more_parts a dot i) = (led_text IsLetter IsAlphanumericByte bytes at _ a.within a.identifier.0).head
+  long_letter (last_part a dot i) = (word_led bytes at a).head
+  long_letter (more_parts a dot i) = (word_led bytes at a).head
 
   pub stands_shape : (kind : TokenKind) → StandsAt bytes kind at end → Shape bytes at end
   stands_shape (kind.Reserved w) h = reserved_shape w h
   stands_shape kind.TyVar h = a_variable (led_text (λ b. b ≡ 39) IsAlphanumericByte bytes at end within h)
   stands_shape kind.Alpha h = a_word (led_text IsLetter IsAlphanumericByte bytes at end within h.0)
   stands_shape kind.Sym h = a_symbol (led_text IsSymbolicByte IsSymbolicByte bytes at end within h.0)
-  stands_shape kind.Long h = a_long (long_letter h) h
-  stands_shape kind.Num h = a_numeral (led_text (λ b. (49 ≤ b) × (b ≤ 57)) IsDigit bytes at end within h)
+  stands_shape kind.Long h = let l = stands_long bytes at end within h in a_long (long_letter l) l
+  stands_shape kind.Num h = a_numeral (led_text (λ b. (49 ≤ b) × (b ≤ 57)) IsDigit bytes at end within (numeral_word (between at end bytes) h))

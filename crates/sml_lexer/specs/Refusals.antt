@@ -1,11 +1,13 @@
 -- Why a text has no tokens, and at which byte.
 use Rattle.std.specs.Prelude.{ℕ, ◌<◌, List, ⊤, length, slice_index}
+use Rattle.std.specs.List.{between}
+use Rattle.sig_base.specs.LongIdentifiers.{HasShortParts}
 use Rattle.sml_lexer.specs.declared.token.LexRefusal.{LexRefusal}
 use Rattle.sml_lexer.specs.declared.token.LexRefusal.TheVariants as refusal
 use Rattle.sml_lexer.specs.declared.token.Token.{Token}
 use Rattle.sml_lexer.specs.declared.token.TokenKind.{TokenKind}
 use Rattle.sml_lexer.specs.Comments.{OpensAt, IsNeverClosed}
-use Rattle.sml_lexer.specs.Tokens.{IsSeparator, IsShort, IsTokenAt, NoTokenAt, Reads}
+use Rattle.sml_lexer.specs.Tokens.{IsSeparator, IsTokenAt, NoTokenAt, Reads}
 
 -- reading reaches the place: before it are tokens and gaps
 abbrev pub IsReached : List ℕ → ℕ → Type 0
@@ -27,7 +29,7 @@ pub record IsLongName (bytes : List ℕ) (at : ℕ) : Type 0 where
   pub kind : TokenKind
   pub end : ℕ
   pub token : IsTokenAt bytes kind at end
-  pub long : IsShort bytes kind at end → ⊥
+  pub long : ¬ HasShortParts (between at end bytes)
 
 -- the text is refused for this: reading reaches the place, and stops there; want of memory is nothing in the text
 abbrev pub Refuses : List ℕ → LexRefusal → Type 0

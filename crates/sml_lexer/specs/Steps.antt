@@ -3,7 +3,8 @@ use Rattle.std.specs.Prelude.{ℕ, ◌≤◌, List, length}
 use Rattle.sml_lexer.specs.declared.longest.Part.{Part}
 use Rattle.sml_lexer.specs.declared.longest.Part.TheVariants as part
 use Rattle.sml_lexer.specs.declared.token.TokenKind.{TokenKind}
-use Rattle.sml_lexer.specs.Tokens.{StandsAt, IsAlphanumericAt, IsSymbolicAt, IsIdentifierAt}
+use Rattle.sml_lexer.specs.Tokens.{StandsAt}
+use Rattle.sml_lexer.specs.LongPlaces.{IsAlphanumericAt, IsIdentifierAt, IsSymbolicAt}
 
 -- nothing can stand there, be it the longest or not
 abbrev pub NothingAt : List ℕ → ℕ → Type 0

@@ -1,33 +1,9 @@
-// The sorts of bytes, and how far a run of one sort goes.
+// Separators, and how far a run of bytes of one sort goes.
 ghost use Rattle.std.specs.Prelude.{◌≡◌, ℕ, ◌<◌, ◌≤◌, ◌↔◌, length, IsTrue, slice_index};
-ghost use Rattle.sig_base.specs.Identifiers.{IsLetter, IsDigit, IsAlphanumericByte, IsSymbolicByte};
+ghost use Rattle.sig_base.specs.Identifiers.{IsDigit, IsAlphanumericByte, IsSymbolicByte};
 ghost use Rattle.sml_lexer.specs.Tokens.{IsSeparator};
 
-const SYMBOLS: &[u8] = b"!%&$#+-/:<=>?@\\~`^|*";
-
-pub fn is_letter(b: u8) -> bool
-    ensures { IsTrue result ↔ IsLetter b }
-{
-    (b'A' <= b && b <= b'Z') || (b'a' <= b && b <= b'z')
-}
-
-pub fn is_digit(b: u8) -> bool
-    ensures { IsTrue result ↔ IsDigit b }
-{
-    b'0' <= b && b <= b'9'
-}
-
-pub fn is_alphanumeric(b: u8) -> bool
-    ensures { IsTrue result ↔ IsAlphanumericByte b }
-{
-    is_letter(b) || is_digit(b) || b == b'\'' || b == b'_'
-}
-
-pub fn is_symbolic(b: u8) -> bool
-    ensures { IsTrue result ↔ IsSymbolicByte b }
-{
-    SYMBOLS.contains(&b)
-}
+use sig_base::{is_alphanumeric_byte, is_digit, is_symbolic_byte};
 
 pub fn is_separator(b: u8) -> bool
     ensures { IsTrue result ↔ IsSeparator b }
@@ -52,7 +28,7 @@ pub fn alphanumeric_end(bytes: &[u8], from: usize) -> usize
     ensures whole { result < length bytes.now → IsAlphanumericByte (slice_index bytes.now result) → ⊥ }
 {
     let mut end = from;
-    while end < bytes.len() && is_alphanumeric(bytes[end]) {
+    while end < bytes.len() && is_alphanumeric_byte(bytes[end]) {
         end += 1;
     }
     end
@@ -67,7 +43,7 @@ pub fn symbolic_end(bytes: &[u8], from: usize) -> usize
     ensures whole { result < length bytes.now → IsSymbolicByte (slice_index bytes.now result) → ⊥ }
 {
     let mut end = from;
-    while end < bytes.len() && is_symbolic(bytes[end]) {
+    while end < bytes.len() && is_symbolic_byte(bytes[end]) {
         end += 1;
     }
     end

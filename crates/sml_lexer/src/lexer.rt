@@ -8,10 +8,9 @@ ghost use Rattle.sml_lexer.specs.Tokens.{tokens};
 
 use crate::bytes::is_separator;
 use crate::comments::{comment_end, is_opening};
-use crate::lengths::is_short;
 use crate::longest::longest_at;
 use crate::{LexRefusal, Token};
-use sig_base::{List, Span};
+use sig_base::{List, Span, has_short_parts};
 use std::alloc::Global;
 
 /// The tokens of a text, in order, each the longest at its place (the Definition of Standard ML,
@@ -39,7 +38,7 @@ pub fn lex(alloc: Global, bytes: &[u8]) -> Result<List<Token>, LexRefusal>
             match longest_at(bytes, at) {
                 None => return Err(LexRefusal::BadByte(at as u32)),
                 Some((kind, end)) => {
-                    if !is_short(bytes, kind, at, end) {
+                    if !has_short_parts(&bytes[at..end]) {
                         return Err(LexRefusal::LongName(at as u32));
                     }
                     let span = Span {

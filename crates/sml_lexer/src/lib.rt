@@ -8,7 +8,6 @@
 
 mod bytes;
 mod comments;
-mod lengths;
 mod lexer;
 mod line_col;
 mod longest;
@@ -22,6 +21,6 @@ pub use line_col::{LineCol, position};
 pub use sig_base::{Span, Word};
 pub use token::{LexRefusal, Token, TokenKind};
 pub use token_laws::{
-    no_refusal, one_list, one_refusal, spans_in_order, spans_inside, tokens_at_their_places,
-    tokens_count,
+    long_identifiers_by_place, no_refusal, one_list, one_refusal, spans_in_order, spans_inside,
+    tokens_at_their_places, tokens_count,
 };

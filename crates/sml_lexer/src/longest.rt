@@ -3,12 +3,13 @@ ghost use Rattle.std.specs.Prelude.{◌≡◌, ℕ, ◌+◌, ◌<◌, ◌≤◌,
 ghost use Rattle.std.specs.List.{between};
 ghost use Rattle.sig_base.specs.Identifiers.{IsLetter, IsSymbolicByte, spelling};
 ghost use Rattle.sig_base.specs.declared.word.Word.TheVariants.{KwDots};
-ghost use Rattle.sml_lexer.specs.Tokens.{IsAlphanumericAt, IsLongestAt};
+ghost use Rattle.sml_lexer.specs.Tokens.{IsLongestAt};
 ghost use Rattle.sml_lexer.specs.Steps.{IsPartAt, NoIdentifierAt, NothingAt};
+ghost use Rattle.sml_lexer.specs.LongPlaces.{IsAlphanumericAt};
 
 use crate::TokenKind;
-use crate::bytes::{alphanumeric_end, digits_end, is_at, is_letter, is_symbolic, symbolic_end};
-use sig_base::Word;
+use crate::bytes::{alphanumeric_end, digits_end, is_at, symbolic_end};
+use sig_base::{Word, is_letter, is_symbolic_byte};
 
 /// An identifier after a dot, by its end.
 #[derive(Clone, Copy, Debug)]
@@ -25,7 +26,7 @@ pub fn longest_at(bytes: &[u8], at: usize) -> Option<(TokenKind, usize)>
     let b = bytes[at];
     if is_letter(b) {
         Some(name_at(bytes, at))
-    } else if is_symbolic(b) {
+    } else if is_symbolic_byte(b) {
         Some(symbolic_at(bytes, at))
     } else if b == b'\'' {
         Some((TokenKind::TyVar, alphanumeric_end(bytes, at + 1)))

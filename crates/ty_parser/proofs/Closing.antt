@@ -6,11 +6,11 @@ use Rattle.ty_parser.specs.declared.sort.Sort.{Sort}
 use Rattle.ty_parser.specs.declared.sort.Sort.TheVariants as s
 use Rattle.ty_parser.specs.declared.tree.TyExp.{TyExp}
 use Rattle.ty_parser.specs.declared.tree.TyExp.TheVariants as ty
-use Rattle.ty_parser.specs.Operands.{Operand}
-use Rattle.ty_parser.specs.Operands as operand
+use Rattle.ty_parser.specs.machine.Operands.{Operand}
+use Rattle.ty_parser.specs.machine.Operands as operand
 use Rattle.ty_parser.specs.declared.tree.FieldExp.{FieldExp}
 use Rattle.ty_parser.specs.Grammar.{Numbered, field}
-use Rattle.ty_parser.specs.Machine.{Parens, Braces, Level, Opened, Stack, State, Want, Have, Brace, Label, Colon, Tycon, stack, tree_of, inside_field, whole, enclosed, right_paren, right_brace, want, leave, have, no_fields, brace, label, colon, tycon, step, closed, finish}
+use Rattle.ty_parser.specs.machine.Machine.{Parens, Braces, Level, Opened, Stack, State, Want, Have, Brace, Label, Colon, Tycon, stack, tree_of, inside_field, whole, enclosed, right_paren, right_brace, want, leave, have, no_fields, brace, label, colon, tycon, step, closed, finish}
 use Rattle.ty_parser.proofs.Complete.{Steps, here, next}
 
 -- further sorts, numbered from n, with which the state comes to the end of a type, whatever follows

@@ -5,12 +5,12 @@ use Rattle.ty_parser.specs.declared.sort.Sort.{Sort}
 use Rattle.ty_parser.specs.declared.tree.TyExp.{TyExp}
 use Rattle.ty_parser.specs.declared.tree.TyExp.TheVariants as ty
 use Rattle.ty_parser.specs.declared.tree.FieldExp.{FieldExp}
-use Rattle.ty_parser.specs.Operands.{Operand}
-use Rattle.ty_parser.specs.Operands as operand
+use Rattle.ty_parser.specs.machine.Operands.{Operand}
+use Rattle.ty_parser.specs.machine.Operands as operand
 use Rattle.ty_parser.specs.Sorts.{is_label, is_long_tycon}
 use Rattle.ty_parser.specs.Grammar.{Numbered, of_parts, field, Ty, sides, Sides, one_side, more_sides, Tuple, parts, Parts, one_part, more_parts, App, alone, applied, Applied, to_none, to_one, to_more, further, Unary, variable, no_fields, fields, parens, Fields, one_field, more_fields, Types, one_type, more_types}
-use Rattle.ty_parser.specs.Machine as machine
-use Rattle.ty_parser.specs.Machine.{Parens, Braces, Level, Opened, Stack, State, Want, Have, Label, Colon, Tycon, fresh, stack, start, tree_of, with_constructor, tuple_of, with_part, with_side, inside, inside_field, whole, comma, enclosed, right_paren, right_brace, begin, want, leave, have, brace, label, colon, tycon, step, run, closed, finish}
+use Rattle.ty_parser.specs.machine.Machine as machine
+use Rattle.ty_parser.specs.machine.Machine.{Parens, Braces, Level, Opened, Stack, State, Want, Have, Label, Colon, Tycon, fresh, stack, start, tree_of, with_constructor, tuple_of, with_part, with_side, inside, inside_field, whole, comma, enclosed, right_paren, right_brace, begin, want, leave, have, brace, label, colon, tycon, step, run, closed, finish}
 
 -- reading the tokens up to the rest leads from one state to the other
 pub data Steps : State → List Numbered → State → List Numbered → Type 0 where

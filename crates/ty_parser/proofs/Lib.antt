@@ -6,7 +6,6 @@ pub mod Refused
 pub mod Viable
 pub mod Stops
 pub mod Types
-pub mod Stacks
 pub mod Pieces
 pub mod Tokens
 pub mod Parts

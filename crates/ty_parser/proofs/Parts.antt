@@ -9,8 +9,8 @@ use Rattle.ty_parser.specs.declared.tree.ParseRefusal.{ParseRefusal}
 use Rattle.ty_parser.specs.declared.tree.ParseRefusal.TheVariants as refusal
 use Rattle.ty_parser.specs.Sorts.{sort_of, sorts_of}
 use Rattle.ty_parser.specs.Phrases.{PhraseFrom, Reaches, most_open, opens, closes}
-use Rattle.ty_parser.specs.Parts.{Takes, PartIs, NoPartAt, DeepPartAt, RefusesPart}
-use Rattle.ty_parser.specs.Machine.{State, start, step, finish, depth, taken}
+use Rattle.ty_parser.specs.Parts.{Takes, PartIs, NoPartAt, DeepPartAt, TellsPart}
+use Rattle.ty_parser.specs.machine.Machine.{State, start, step, finish, depth, taken}
 use Rattle.ty_parser.proofs.Runs.{of_some}
 use Rattle.ty_parser.proofs.Viable.{ReadTo, opens_one, start_read, step_read, step_deep, step_reaches, end_reaches, finish_found, finish_none}
 use Rattle.ty_parser.proofs.Types.{types, step_depth}
@@ -81,7 +81,7 @@ module _ (outside first : ℕ) (ss : List Sort) (place : ℕ) (st : State) (to :
   no_part : finish st ≡ None → NoPartAt outside first ss place
   no_part e = record { taken = to.taken; takes = takes; no_type = finish_none (types first) outside ss to.taken st to.read e; next = to.place_is }
 
-  pub part_refused : (r : Result TypePart ParseRefusal) → IfErr r (λ r. (r ≡ refusal.NoMemory) ⊎ ((r ≡ refusal.Syntax place) × (finish st ≡ None))) → IfErr r (RefusesPart outside first ss)
+  pub part_refused : (r : Result TypePart ParseRefusal) → IfErr r (λ r. (r ≡ refusal.NoMemory) ⊎ ((r ≡ refusal.Syntax place) × (finish st ≡ None))) → IfErr r (TellsPart outside first ss)
   part_refused (Ok part) ended = tt
-  part_refused (Err r) (inl e) = subst (RefusesPart outside first ss) (sym e) tt
-  part_refused (Err r) (inr e) = subst (RefusesPart outside first ss) (sym e.0) (no_part e.1)
+  part_refused (Err r) (inl e) = subst (TellsPart outside first ss) (sym e) tt
+  part_refused (Err r) (inr e) = subst (TellsPart outside first ss) (sym e.0) (no_part e.1)

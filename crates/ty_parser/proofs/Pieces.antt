@@ -14,10 +14,11 @@ use Rattle.ty_parser.specs.declared.reader.Stage.{Stage}
 use Rattle.ty_parser.specs.declared.reader.Stage.TheVariants as stage
 use Rattle.ty_parser.specs.declared.reader.Reader.{Reader}
 use Rattle.ty_parser.specs.declared.tree.TyExp.TheVariants as ty
-use Rattle.ty_parser.specs.Operands as operand
+use Rattle.ty_parser.specs.machine.Operands as operand
 use Rattle.ty_parser.specs.Grammar.{field, of_parts}
-use Rattle.ty_parser.specs.Machine.{Parens, State, Want, Have, Label, Tycon, Stack, stack, fresh, last_of, before_last, level_of, before_level, opened_of, levels_of, tuple_of, with_part, with_side, inside, enclosed, comma, right_paren, right_brace, closed, depth, state_at, braces_of}
-use Rattle.ty_parser.proofs.Stacks.{last_of-none, before_last-none, before_last-all, last_of-more, before_last-more}
+use Rattle.sig_base.specs.Stacks.{last_of, before_last}
+use Rattle.ty_parser.specs.machine.Machine.{Parens, State, Want, Have, Label, Tycon, Stack, stack, fresh, level_of, before_level, opened_of, levels_of, tuple_of, with_part, with_side, inside, enclosed, comma, right_paren, right_brace, closed, depth, state_at, braces_of}
+use Rattle.sig_base.proofs.Stacks.{last_of-none, before_last-none, before_last-all}
 
 -- the last of a list is the first of it from the end
 last_open : (ls : List Opening) → slice_get ls (length ls - 1) ≡ slice_get (reverse ls) 0
@@ -105,21 +106,22 @@ opened_is ls ls' o l es fs pushed none =
     λ i. stack (opened_of (outer i) (fresh_before l es none i) fs) (fresh_level l es none i)
 
 -- a level with one part more, and with one side more
-pub with_part_is : (ls : List Opening) (l : LevelSize) (es es' : List TyExp) (fs : List FieldExp) (e : TyExp) (n : ℕ) → es' ≡ es ++ e ∷ [] → n ≡ l.parts + 1
+pub with_part_is : (ls : List Opening) (l : LevelSize) (es es' : List TyExp) (fs : List FieldExp) (e : TyExp) (n : ℕ)
+    → last_of n es' ≡ last_of l.parts es ++ e ∷ [] → before_last n es' ≡ before_last l.parts es
     → levels_of ls (record { sides = l.sides; parts = n }) es' fs ≡ with_part (levels_of ls l es fs) e
 unfolding with_part
-with_part_is ls l es es' fs e n pushed counted =
-    let before = before_last-more l.parts n es es' e pushed counted in
-    let last = last_of-more l.parts n es es' e pushed counted in
+with_part_is ls l es es' fs e n last before =
     λ i. stack (opened_of (reverse ls) (before_last l.sides (before i)) fs) (record { sides = last_of l.sides (before i); parts = last i })
 
-pub with_side_is : (ls : List Opening) (l : LevelSize) (es es' es'' : List TyExp) (fs : List FieldExp) (e side : TyExp) (n : ℕ) → es' ≡ before_last l.parts es → side ≡ tuple_of (last_of l.parts es) e → es'' ≡ es' ++ side ∷ [] → n ≡ l.sides + 1
+pub with_side_is : (ls : List Opening) (l : LevelSize) (es es' es'' : List TyExp) (fs : List FieldExp) (e side : TyExp) (n : ℕ)
+    → es' ≡ before_last l.parts es → side ≡ tuple_of (last_of l.parts es) e
+    → last_of n es'' ≡ last_of l.sides es' ++ side ∷ [] → before_last n es'' ≡ before_last l.sides es'
     → levels_of ls (record { sides = n; parts = 0 }) es'' fs ≡ with_side (levels_of ls l es fs) e
 unfolding with_side
-with_side_is ls l es es' es'' fs e side n rest side_is pushed counted =
+with_side_is ls l es es' es'' fs e side n rest side_is last_is before_is =
     let all = before_last-none es'' in
-    let before = ap (before_last n) all ∙ before_last-more l.sides n es' es'' side pushed counted ∙ ap (before_last l.sides) rest in
-    let last = ap (last_of n) all ∙ last_of-more l.sides n es' es'' side pushed counted ∙ (λ i. last_of l.sides (rest i) ++ side_is i ∷ []) in
+    let before = ap (before_last n) all ∙ before_is ∙ ap (before_last l.sides) rest in
+    let last = ap (last_of n) all ∙ last_is ∙ (λ i. last_of l.sides (rest i) ++ side_is i ∷ []) in
     λ i. stack (opened_of (reverse ls) (before i) fs) (record { sides = last i; parts = last_of-none es'' i })
 
 -- nothing is open
@@ -145,12 +147,11 @@ module _ (ls rest : List Opening) (last o : Opening) (popped : ls ≡ rest ++ la
 
 -- a parenthesis is open, and the level in it is one type
 module _ (ls rest : List Opening) (last : Opening) (l : LevelSize) (n : ℕ) (popped : ls ≡ rest ++ last ∷ []) (is : last ≡ opening.Parens l n) (es es' : List TyExp) (same : es' ≡ es) (fs : List FieldExp) (e f : TyExp) (whole_is : e ≡ f) where
-  pub comma_parens : (es'' : List TyExp) (more : ℕ) (st : State) → es'' ≡ es' ++ e ∷ [] → more ≡ n + 1
+  pub comma_parens : (es'' : List TyExp) (more : ℕ) (st : State) → last_of more es'' ≡ last_of n es' ++ e ∷ [] → before_last more es'' ≡ before_last n es'
       → st ≡ Want (stack (opened_of (opening.Parens l more ∷ reverse rest) es'' fs) fresh) → Some st ≡ comma (opened_of (reverse ls) es fs) f
   unfolding comma
-  comma_parens es'' more st pushed counted st_is =
-      let before = before_last-more n more es' es'' e pushed counted in
-      let arguments = last_of-more n more es' es'' e pushed counted ∙ ap (λ e. last_of n es' ++ e ∷ []) whole_is in
+  comma_parens es'' more st one_more before st_is =
+      let arguments = one_more ∙ ap (λ e. last_of n es' ++ e ∷ []) whole_is in
       ap Some st_is
       ∙ (λ i. Some (Want (stack (Parens (level_of l (before i)) (arguments i) ∷ opened_of (reverse rest) (before_level l (before i)) fs) fresh)))
       ∙ sym (ap (λ ls. comma ls f) (last_is ls rest last (opening.Parens l n) popped is es es' same fs))
@@ -167,12 +168,10 @@ module _ (ls rest : List Opening) (last : Opening) (l : LevelSize) (n : ℕ) (po
   right_brace_parens = sym (ap (λ ls. right_brace ls f) (last_is ls rest last (opening.Parens l n) popped is es es refl fs))
 
 -- a brace is open, and the level in it is one type
-module _ (ls rest : List Opening) (last : Opening) (l : LevelSize) (n i : ℕ) (popped : ls ≡ rest ++ last ∷ []) (is : last ≡ opening.Braces l n i) (es es' : List TyExp) (same : es' ≡ es) (fs fs' : List FieldExp) (e f : TyExp) (whole_is : e ≡ f) (pushed : fs' ≡ fs ++ field i e ∷ []) (more : ℕ) (counted : more ≡ n + 1) where
+module _ (ls rest : List Opening) (last : Opening) (l : LevelSize) (n i : ℕ) (popped : ls ≡ rest ++ last ∷ []) (is : last ≡ opening.Braces l n i) (es es' : List TyExp) (same : es' ≡ es) (fs fs' : List FieldExp) (e f : TyExp) (whole_is : e ≡ f)
+    (more : ℕ) (one_more : last_of more fs' ≡ last_of n fs ++ field i e ∷ []) (before_is : before_last more fs' ≡ before_last n fs) where
   fields_is : last_of more fs' ≡ last_of n fs ++ field i f ∷ []
-  fields_is = last_of-more n more fs fs' (field i e) pushed counted ∙ ap (λ e. last_of n fs ++ field i e ∷ []) whole_is
-
-  before_is : before_last more fs' ≡ before_last n fs
-  before_is = before_last-more n more fs fs' (field i e) pushed counted
+  fields_is = one_more ∙ ap (λ e. last_of n fs ++ field i e ∷ []) whole_is
 
   pub comma_braces : Some (Label (levels_of rest l es' (before_last more fs')) (last_of more fs')) ≡ comma (opened_of (reverse ls) es fs) f
   unfolding comma
@@ -207,11 +206,12 @@ module _ (ls : List Opening) (l : LevelSize) (n : ℕ) (es : List TyExp) (fs : L
   some_enclosed k [] some = absurd (some refl)
   some_enclosed k (x ∷ args) some = refl
 
-  pub enclosed_more : (es' es'' : List TyExp) (more : ℕ) (args : List TyExp) → (last_of n es ≡ [] → ⊥) → es' ≡ es ++ e ∷ [] → more ≡ n + 1 → args ≡ last_of more es' → es'' ≡ before_last more es'
+  pub enclosed_more : (es' es'' : List TyExp) (more : ℕ) (args : List TyExp) → (last_of n es ≡ [] → ⊥)
+      → last_of more es' ≡ last_of n es ++ e ∷ [] → before_last more es' ≡ before_last n es → args ≡ last_of more es' → es'' ≡ before_last more es'
       → Tycon (levels_of ls l es'' fs) args ≡ enclosed (levels_of ls l (before_last n es) fs) (last_of n es) e
-  enclosed_more es' es'' more args some pushed counted as_is rest_is =
-      let all = as_is ∙ last_of-more n more es es' e pushed counted in
-      let below = rest_is ∙ before_last-more n more es es' e pushed counted in
+  enclosed_more es' es'' more args some last before as_is rest_is =
+      let all = as_is ∙ last in
+      let below = rest_is ∙ before in
       (λ i. Tycon (levels_of ls l (below i) fs) (all i)) ∙ sym (some_enclosed (levels_of ls l (before_last n es) fs) (last_of n es) some)
 
 -- a type may end where nothing is open

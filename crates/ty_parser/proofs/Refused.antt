@@ -3,7 +3,7 @@ use Rattle.std.proofs.Common.{◌≡◌, ℕ, Bool, true, false, None, refl}
 use Rattle.sig_base.specs.declared.word.Word.TheVariants as w
 use Rattle.ty_parser.specs.declared.sort.Sort.{Sort}
 use Rattle.ty_parser.specs.declared.sort.Sort.TheVariants as s
-use Rattle.ty_parser.specs.Machine.{State, Want, Have, Brace, Label, Colon, Tycon, begin, want, leave, have, no_fields, brace, label, colon, tycon, step}
+use Rattle.ty_parser.specs.machine.Machine.{State, Want, Have, Brace, Label, Colon, Tycon, begin, want, leave, have, no_fields, brace, label, colon, tycon, step}
 
 -- a type has tokens of this sort
 abbrev pub is_type_sort : Sort → Bool

@@ -3,7 +3,7 @@ use Rattle.std.proofs.Common.{◌≡◌, ℕ, ◌+◌, List, [], ◌∷◌, ◌+
 use Rattle.std.specs.Prelude.{IfSome, option_and_then}
 use Rattle.std.specs.List.{enumerate_from}
 use Rattle.ty_parser.specs.Grammar.{Numbered}
-use Rattle.ty_parser.specs.Machine.{run}
+use Rattle.ty_parser.specs.machine.Machine.{run}
 
 pub of_some : {A : Type 0} (P : A → Type 0) (o : Option A) (a : A) → o ≡ Some a → IfSome o P → P a
 of_some {A = A} P o a e h = let Q : Option A → Type 0 = λ o. IfSome o P in subst Q e h

@@ -6,12 +6,12 @@ use Rattle.ty_parser.specs.declared.sort.Sort.{Sort}
 use Rattle.ty_parser.specs.declared.sort.Sort.TheVariants as s
 use Rattle.ty_parser.specs.declared.tree.TyExp.{TyExp}
 use Rattle.ty_parser.specs.declared.tree.FieldExp.{FieldExp}
-use Rattle.ty_parser.specs.Operands.{Operand}
-use Rattle.ty_parser.specs.Operands as operand
+use Rattle.ty_parser.specs.machine.Operands.{Operand}
+use Rattle.ty_parser.specs.machine.Operands as operand
 use Rattle.ty_parser.specs.Sorts.{is_label, is_long_tycon}
 use Rattle.ty_parser.specs.Grammar as grammar
 use Rattle.ty_parser.specs.Grammar.{Numbered, field, Ty, sides, Sides, one_side, more_sides, Tuple, parts, Parts, one_part, more_parts, App, alone, applied, Applied, to_none, to_one, to_more, further, Unary, variable, fields, parens, Fields, one_field, more_fields, Types, one_type, more_types}
-use Rattle.ty_parser.specs.Machine.{Parens, Braces, Level, Opened, Stack, State, Want, Have, Brace, Label, Colon, Tycon, stack, start, tree_of, with_constructor, tuple_of, with_part, with_side, inside, inside_field, whole, comma, enclosed, right_paren, right_brace, begin, want, leave, have, no_fields, brace, label, colon, tycon, step, run, closed, finish}
+use Rattle.ty_parser.specs.machine.Machine.{Parens, Braces, Level, Opened, Stack, State, Want, Have, Brace, Label, Colon, Tycon, stack, start, tree_of, with_constructor, tuple_of, with_part, with_side, inside, inside_field, whole, comma, enclosed, right_paren, right_brace, begin, want, leave, have, no_fields, brace, label, colon, tycon, step, run, closed, finish}
 use Rattle.ty_parser.proofs.Runs.{if_some-and_then}
 
 -- no parts, or parts and a star

@@ -33,7 +33,7 @@ module _ {Tree : Type 0} (phrase : List Sort → Tree → Type 0) (ss : List Sor
   pub deep_within : (outside k : ℕ) → TooDeepAt phrase outside ss k → k < length ss
   deep_within outside k deep = slice_get_within ss k deep.sort deep.there
 
-  -- a token that is too deep stands in the part that begins a phrase
+  -- a token that is too deep stands among those that begin a phrase
   pub deep_reached : (outside j k : ℕ) → Reaches phrase ss j → TooDeepAt phrase outside ss k → k < j
   deep_reached outside j k at_j deep =
       let within = deep_within outside k deep in

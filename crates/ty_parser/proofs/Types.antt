@@ -6,12 +6,12 @@ use Rattle.sig_base.specs.declared.word.Word.TheVariants as w
 use Rattle.ty_parser.specs.declared.sort.Sort.{Sort}
 use Rattle.ty_parser.specs.declared.sort.Sort.TheVariants as s
 use Rattle.ty_parser.specs.declared.tree.TyExp.{TyExp}
-use Rattle.ty_parser.specs.Operands as operand
+use Rattle.ty_parser.specs.machine.Operands as operand
 use Rattle.ty_parser.specs.declared.tree.FieldExp.{FieldExp}
 use Rattle.ty_parser.specs.Sorts.{is_label, is_long_tycon}
 use Rattle.ty_parser.specs.Grammar.{Numbered, Ty}
 use Rattle.ty_parser.specs.Phrases.{PhraseFrom, opens, closes}
-use Rattle.ty_parser.specs.Machine.{Parens, Braces, Opened, Stack, State, Want, Have, Brace, Label, Colon, Tycon, start, tree_of, with_constructor, with_part, with_side, inside, inside_field, whole, comma, enclosed, right_paren, right_brace, begin, want, leave, have, no_fields, brace, label, colon, tycon, step, run, finish, depth}
+use Rattle.ty_parser.specs.machine.Machine.{Parens, Braces, Opened, Stack, State, Want, Have, Brace, Label, Colon, Tycon, start, tree_of, with_constructor, with_part, with_side, inside, inside_field, whole, comma, enclosed, right_paren, right_brace, begin, want, leave, have, no_fields, brace, label, colon, tycon, step, run, finish, depth}
 use Rattle.ty_parser.proofs.Complete.{steps-run, type_read}
 use Rattle.ty_parser.proofs.Sound.{parse_sound, if_some-or}
 use Rattle.ty_parser.proofs.Closing.{completes}

@@ -1,6 +1,6 @@
 -- A machine that reads the phrases of a grammar goes on exactly as far as a phrase begins, and knows how deep it is.
 use Rattle.std.proofs.Common.{◌≡◌, ℕ, ◌+◌, ◌<◌, ◌≤◌, List, [], ◌∷◌, ◌++◌, length, get_or, take, drop, Option, Some, None, refl, ap, sym, ◌∙◌, subst, arith, below_more}
-use Rattle.std.specs.Prelude.{◌↔◌, IfSome, option_and_then, slice_get, sum_by}
+use Rattle.std.specs.Prelude.{IfSome, option_and_then, slice_get, sum_by}
 use Rattle.std.specs.List.{enumerate_from}
 use Rattle.std.proofs.lemmas.List.{take_more, length-take-le, take-append-drop}
 use Rattle.std.proofs.lemmas.List.Sums.{sum_by-append}
@@ -11,7 +11,7 @@ use Rattle.ty_parser.specs.declared.sort.Sort.{Sort}
 use Rattle.ty_parser.specs.declared.sort.Sort.TheVariants as s
 use Rattle.ty_parser.specs.Grammar.{Numbered}
 use Rattle.ty_parser.specs.Phrases.{Begins, Reaches, StopsAt, most_open, opens, closes, TooDeepAt, IsShallow}
-use Rattle.ty_parser.specs.Machine.{run}
+use Rattle.ty_parser.specs.machine.Machine.{run}
 use Rattle.ty_parser.proofs.Runs.{of_some, if_some-and_then, if_some-map, run-append, enumerate_from-append}
 
 -- a machine that reads exactly the phrases whose first token has a number, each state of which can go on to the end of one, and which counts what is open
@@ -56,17 +56,6 @@ module _ (m : Reading) where
       let some = m.complete (ss ++ more) f d in
       cc
 
-  pub begins_not : (ss : List Sort) → (Begins m.phrase ss → ⊥) → reads ss ≡ None
-  begins_not ss none = by_state (reads ss) refl
-    where
-      by_state : (o : Option m.State) → reads ss ≡ o → reads ss ≡ None
-      by_state None e = e
-      by_state (Some st) e = absurd (none (begins ss st e))
-
-  -- the sorts are a phrase exactly where the machine ends with its tree
-  pub phrase_read : (ss : List Sort) (e : m.Tree) → (option_and_then m.finish (reads ss) ≡ Some e) ↔ m.phrase ss e
-  phrase_read ss e = (λ read. of_some (m.phrase ss) _ e read (m.sound ss), m.complete ss e)
-
   -- what is open was opened and not closed
   run_depth : (n : ℕ) (ss : List Sort) (st : m.State) → IfSome (run m.step st (enumerate_from n ss)) (λ st'. sum_by opens ss + m.depth st ≡ sum_by closes ss + m.depth st')
   run_depth n [] st = refl
@@ -77,7 +66,7 @@ module _ (m : Reading) where
       let r = sum_by-append closes (so ∷ []) ss in
       omega (arith, one, rest, l, r)) (run_depth (n + 1) ss st'))
 
-  pub read_depth : (ss : List Sort) (st : m.State) → reads ss ≡ Some st → sum_by opens ss ≡ sum_by closes ss + m.depth st
+  read_depth : (ss : List Sort) (st : m.State) → reads ss ≡ Some st → sum_by opens ss ≡ sum_by closes ss + m.depth st
   read_depth ss st e =
       let counted = of_some (λ st'. sum_by opens ss + m.depth m.start ≡ sum_by closes ss + m.depth st') _ st e (run_depth m.first ss m.start) in
       omega (arith, counted, m.start_depth)

@@ -1,5 +1,5 @@
 -- Which lists of sorts are phrases, where a list of sorts that is none goes wrong, and where it nests too deep.
-use Rattle.std.specs.Prelude.{◌≡◌, ℕ, ◌+◌, ◌<◌, ◌≤◌, List, [], ◌++◌, Some, length, take, slice_get, sum_by}
+use Rattle.std.specs.Prelude.{◌≡◌, ℕ, ◌+◌, ◌<◌, ◌≤◌, ⊤, List, [], ◌++◌, Some, length, take, slice_get, sum_by}
 use Rattle.std.specs.List.{enumerate_from}
 use Rattle.sig_base.specs.declared.word.Word.TheVariants as w
 use Rattle.ty_parser.specs.declared.sort.Sort.{Sort}
@@ -50,7 +50,8 @@ closes (s.Reserved w.KwRBrace) = 1
 closes (s.Reserved w.KwEnd) = 1
 closes _ = 0
 
--- token k opens one more and can stand there, and as many as may be are open before it: those outside, which are open before the first token, and those that the tokens before it opened and didn't close
+-- token k opens one more and can stand there, and as many as may be are open before it: those outside, which are open
+-- before the first token, and those that the tokens before it opened and didn't close
 pub record TooDeepAt {Tree : Type 0} (phrase : List Sort → Tree → Type 0) (outside : ℕ) (ss : List Sort) (k : ℕ) : Type 0 where
   pub sort : Sort
   pub there : slice_get ss k ≡ Some sort
@@ -62,8 +63,13 @@ pub record TooDeepAt {Tree : Type 0} (phrase : List Sort → Tree → Type 0) (o
 abbrev pub IsShallow : {Tree : Type 0} → (List Sort → Tree → Type 0) → ℕ → List Sort → ℕ → Type 0
 IsShallow phrase outside ss k = (i : ℕ) → i < k → TooDeepAt phrase outside ss i → ⊥
 
--- what a refusal says of the sorts
+-- the sorts are refused for this; want of memory is nothing in the sorts
 abbrev pub Refuses : {Tree : Type 0} → (List Sort → Tree → Type 0) → List Sort → ParseRefusal → Type 0
 Refuses phrase ss (refusal.Syntax k) = StopsAt phrase ss k × IsShallow phrase 0 ss k
 Refuses phrase ss (refusal.TooDeep k) = TooDeepAt phrase 0 ss k × IsShallow phrase 0 ss k
-Refuses phrase ss refusal.NoMemory = Unit {0}
+Refuses phrase ss refusal.NoMemory = ⊥
+
+-- what an answer tells of the sorts: that they are refused for this, or, where memory was wanted, nothing
+abbrev pub Tells : {Tree : Type 0} → (List Sort → Tree → Type 0) → List Sort → ParseRefusal → Type 0
+Tells phrase ss refusal.NoMemory = ⊤
+Tells phrase ss refusal = Refuses phrase ss refusal

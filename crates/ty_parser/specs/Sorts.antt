@@ -1,17 +1,13 @@
 -- What the tokens of a text are to the grammars of types and of files.
-use Rattle.std.specs.Prelude.{ℕ, ◌-◌, Bool, true, false, ◌||◌, if◌then◌else◌, List, map, length, codes, bytes_eq, slice_index, nat_eq}
+use Rattle.std.specs.Prelude.{ℕ, ◌-◌, Bool, true, false, if◌then◌else◌, List, map, length, codes, bytes_eq, slice_index, nat_eq}
 use Rattle.std.specs.List.{ends_with}
-use Rattle.std.specs.Char.{is_ascii_alphanumeric}
+use Rattle.sig_base.specs.Identifiers.{is_alphanumeric_byte}
 use Rattle.sml_lexer.specs.Tokens.{text_of}
 use Rattle.sml_lexer.specs.declared.token.Token.{Token}
 use Rattle.sml_lexer.specs.declared.token.TokenKind.{TokenKind}
 use Rattle.sml_lexer.specs.declared.token.TokenKind.TheVariants as kind
 use Rattle.ty_parser.specs.declared.sort.Sort.{Sort}
 use Rattle.ty_parser.specs.declared.sort.Sort.TheVariants as s
-
--- a letter, a digit, a prime or an underbar
-abbrev pub is_alphanumeric : ℕ → Bool
-is_alphanumeric b = is_ascii_alphanumeric b || nat_eq b 39 || nat_eq b 95
 
 -- a symbolic identifier without dots
 abbrev pub sort_of_symbol : List ℕ → Sort
@@ -20,7 +16,7 @@ sort_of_symbol text = if bytes_eq text (codes "*") then s.Star else s.Symbolic
 -- a long identifier, by its last part, which is alphanumeric where the last byte is, `*` where the text ends in `.*`, and else another symbolic identifier
 abbrev pub sort_of_long : List ℕ → Sort
 sort_of_long text =
-    if is_alphanumeric (slice_index text (length text - 1)) then s.LongAlphanumeric
+    if is_alphanumeric_byte (slice_index text (length text - 1)) then s.LongAlphanumeric
     else if ends_with nat_eq text (codes ".*") then s.LongStar else s.LongSymbolic
 
 -- a token of this kind and text

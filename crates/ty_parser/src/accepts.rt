@@ -1,8 +1,8 @@
 // Which sorts of token can stand next in each state of a reader.
 ghost use Rattle.std.specs.Prelude.{◌≡◌, ℕ, List, is_some};
-ghost use Rattle.ty_parser.specs.Machine as machine;
-ghost use Rattle.ty_parser.specs.Machine.{stack_of};
-ghost use Rattle.ty_parser.specs.Operands.{Operand};
+ghost use Rattle.ty_parser.specs.machine.Machine as machine;
+ghost use Rattle.ty_parser.specs.machine.Machine.{stack_of};
+ghost use Rattle.ty_parser.specs.machine.Operands.{Operand};
 ghost use Rattle.ty_parser.specs.declared.tree.FieldExp.{FieldExp};
 ghost use Rattle.ty_parser.specs.declared.tree.TyExp.{TyExp};
 
@@ -44,7 +44,7 @@ impl Reader {
         }
     }
 
-    #[tactic(auto, unfolding(crate::specs::Machine::leave))]
+    #[tactic(auto, unfolding(crate::specs::machine::Machine::leave))]
     fn can_leave(&self, sort: Sort) -> bool
         ensures { (ty : TyExp) → result ≡ is_some (machine.leave (stack_of self.now) ty sort) }
     {
@@ -59,8 +59,8 @@ impl Reader {
     }
 
     // Whether a token of this sort can stand behind an operand.
-    #[tactic(auto, unfolding(crate::specs::Machine::have))]
-    pub fn can_have(&self, sort: Sort) -> bool
+    #[tactic(auto, unfolding(crate::specs::machine::Machine::have))]
+    pub(crate) fn can_have(&self, sort: Sort) -> bool
         ensures { (a : Operand) (place : ℕ) → result ≡ is_some (machine.have (stack_of self.now) a place sort) }
     {
         if sort.is_long_tycon() {
@@ -71,7 +71,7 @@ impl Reader {
     }
 }
 
-#[tactic(auto, unfolding(crate::specs::Machine::begin))]
+#[tactic(auto, unfolding(crate::specs::machine::Machine::begin))]
 fn can_begin(sort: Sort) -> bool
     ensures { (k : machine.Stack) (place : ℕ) → result ≡ is_some (machine.begin k place sort) }
 {
@@ -83,8 +83,8 @@ fn can_begin(sort: Sort) -> bool
     }
 }
 
-#[tactic(auto, unfolding(crate::specs::Machine::want))]
-pub fn can_want(sort: Sort) -> bool
+#[tactic(auto, unfolding(crate::specs::machine::Machine::want))]
+pub(crate) fn can_want(sort: Sort) -> bool
     ensures { (k : machine.Stack) (place : ℕ) → result ≡ is_some (machine.want k place sort) }
 {
     if sort.is_long_tycon() {
@@ -94,8 +94,8 @@ pub fn can_want(sort: Sort) -> bool
     }
 }
 
-#[tactic(auto, unfolding(crate::specs::Machine::brace, crate::specs::Machine::no_fields))]
-pub fn can_brace(sort: Sort) -> bool
+#[tactic(auto, unfolding(crate::specs::machine::Machine::brace, crate::specs::machine::Machine::no_fields))]
+pub(crate) fn can_brace(sort: Sort) -> bool
     ensures { (k : machine.Stack) (place : ℕ) → result ≡ is_some (machine.brace k place sort) }
 {
     if sort.is_label() {
@@ -107,8 +107,8 @@ pub fn can_brace(sort: Sort) -> bool
     }
 }
 
-#[tactic(auto, unfolding(crate::specs::Machine::colon))]
-pub fn can_colon(sort: Sort) -> bool
+#[tactic(auto, unfolding(crate::specs::machine::Machine::colon))]
+pub(crate) fn can_colon(sort: Sort) -> bool
     ensures { (k : machine.Stack) (fs : List FieldExp) (i : ℕ) → result ≡ is_some (machine.colon k fs i sort) }
 {
     match sort {

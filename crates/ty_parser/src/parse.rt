@@ -1,13 +1,14 @@
 // The parser of types.
 ghost use Rattle.std.specs.Prelude.{◌≡◌, ◌≤◌, ◌⊎◌, ℕ, ◌+◌, List, Ok, Err, Some, None, length, take, drop, IfOk, IfErr};
 ghost use Rattle.sml_lexer.specs.Tokens.{tokens as tokens_of};
-ghost use Rattle.ty_parser.specs.Machine as machine;
-ghost use Rattle.ty_parser.specs.Machine.{state_of};
+ghost use Rattle.ty_parser.specs.machine.Machine as machine;
+ghost use Rattle.ty_parser.specs.machine.Machine.{state_of};
 ghost use Rattle.ty_parser.specs.Sorts.{sorts_of};
-ghost use Rattle.ty_parser.specs.Phrases.{Phrase, PhraseFrom, IsShallow, Refuses, StopsAt, TooDeepAt, most_open};
-ghost use Rattle.ty_parser.specs.Parts.{Takes, PartIs, RefusesPart, NoPartAt, DeepPartAt};
+ghost use Rattle.ty_parser.specs.Phrases.{Phrase, PhraseFrom, IsShallow, Refuses, Tells, most_open};
+ghost use Rattle.ty_parser.specs.Parts.{Takes, PartIs, RefusesPart, TellsPart};
 ghost use Rattle.ty_parser.specs.declared.tree.TyExp.{TyExp};
-ghost use Rattle.ty_parser.specs.declared.tree.ParseRefusal.TheVariants.{Syntax, TooDeep, NoMemory};
+ghost use Rattle.ty_parser.specs.declared.tree.ParseRefusal.{ParseRefusal as AParseRefusal};
+ghost use Rattle.ty_parser.specs.declared.tree.ParseRefusal.TheVariants.{Syntax, NoMemory};
 
 use crate::reader::Reader;
 use crate::sort::sort_of;
@@ -30,16 +31,12 @@ pub fn parse_type(alloc: Global, bytes: &[u8], tokens: &[Token]) -> Result<TypeA
     ensures tree { IfOk result (λ t. Phrase (sorts_of bytes.now tokens.now) t.ty) }
     ensures first { IfOk result (λ t. t.first ≡ 0) }
     ensures shallow { IfOk result (λ _. IsShallow Phrase 0 (sorts_of bytes.now tokens.now) (length tokens.now)) }
-    ensures refusal { IfErr result (λ refusal. Refuses Phrase (sorts_of bytes.now tokens.now) refusal) }
+    ensures refusal { IfErr result (λ refusal. Tells Phrase (sorts_of bytes.now tokens.now) refusal) }
     ensures only_tree { (e : TyExp) → Phrase (sorts_of bytes.now tokens.now) e
         → IsShallow Phrase 0 (sorts_of bytes.now tokens.now) (length tokens.now)
         → (result ≡ Ok (record { first = 0; ty = e })) ⊎ (result ≡ Err NoMemory) }
-    ensures only_syntax { (k : ℕ) → StopsAt Phrase (sorts_of bytes.now tokens.now) k
-        → IsShallow Phrase 0 (sorts_of bytes.now tokens.now) k
-        → (result ≡ Err (Syntax k)) ⊎ (result ≡ Err NoMemory) }
-    ensures only_too_deep { (k : ℕ) → TooDeepAt Phrase 0 (sorts_of bytes.now tokens.now) k
-        → IsShallow Phrase 0 (sorts_of bytes.now tokens.now) k
-        → (result ≡ Err (TooDeep k)) ⊎ (result ≡ Err NoMemory) }
+    ensures only_refusal { (refusal : AParseRefusal) → Refuses Phrase (sorts_of bytes.now tokens.now) refusal
+        → (result ≡ Err refusal) ⊎ (result ≡ Err NoMemory) }
 {
     parse_whole(alloc, bytes, tokens)
 }
@@ -51,7 +48,7 @@ fn parse_whole(alloc: Global, bytes: &[u8], tokens: &[Token]) -> Result<TypeAt, 
     ensures tree { IfOk result (λ t. Phrase (sorts_of bytes.now tokens.now) t.ty) }
     ensures first { IfOk result (λ t. t.first ≡ 0) }
     ensures shallow { IfOk result (λ _. IsShallow Phrase 0 (sorts_of bytes.now tokens.now) (length tokens.now)) }
-    ensures refusal { IfErr result (λ refusal. Refuses Phrase (sorts_of bytes.now tokens.now) refusal) }
+    ensures refusal { IfErr result (λ refusal. Tells Phrase (sorts_of bytes.now tokens.now) refusal) }
 {
     let TypePart { ty, next } = read_type(alloc, bytes, tokens, 0, 0)?;
     if (next as usize) < tokens.len() {
@@ -78,14 +75,13 @@ pub fn read_type(
     requires shallow { depth ≤ most_open }
     ensures tree { IfOk result (λ part. PartIs depth at (drop at (sorts_of bytes.now tokens.now)) part) }
     ensures first { IfOk result (λ part. part.ty.first ≡ at) }
-    ensures refusal { IfErr result (λ refusal. RefusesPart depth at (drop at (sorts_of bytes.now tokens.now)) refusal) }
+    ensures refusal { IfErr result (λ refusal. TellsPart depth at (drop at (sorts_of bytes.now tokens.now)) refusal) }
     ensures only_tree { (n : ℕ) (e : TyExp) → Takes depth at (drop at (sorts_of bytes.now tokens.now)) n
         → PhraseFrom at (take n (drop at (sorts_of bytes.now tokens.now))) e
         → (result ≡ Ok (record { ty = record { first = at; ty = e }; next = at + n })) ⊎ (result ≡ Err NoMemory) }
-    ensures only_syntax { (k : ℕ) → NoPartAt depth at (drop at (sorts_of bytes.now tokens.now)) k
-        → (result ≡ Err (Syntax k)) ⊎ (result ≡ Err NoMemory) }
-    ensures only_too_deep { (k : ℕ) → DeepPartAt depth at (drop at (sorts_of bytes.now tokens.now)) k
-        → (result ≡ Err (TooDeep k)) ⊎ (result ≡ Err NoMemory) }
+    ensures only_refusal { (refusal : AParseRefusal)
+        → RefusesPart depth at (drop at (sorts_of bytes.now tokens.now)) refusal
+        → (result ≡ Err refusal) ⊎ (result ≡ Err NoMemory) }
 {
     read_part(alloc, bytes, tokens, at, depth)
 }
@@ -104,7 +100,7 @@ fn read_part(
     requires shallow { depth ≤ most_open }
     ensures tree { IfOk result (λ part. PartIs depth at (drop at (sorts_of bytes.now tokens.now)) part) }
     ensures first { IfOk result (λ part. part.ty.first ≡ at) }
-    ensures refusal { IfErr result (λ refusal. RefusesPart depth at (drop at (sorts_of bytes.now tokens.now)) refusal) }
+    ensures refusal { IfErr result (λ refusal. TellsPart depth at (drop at (sorts_of bytes.now tokens.now)) refusal) }
 {
     let mut reader = Reader::new(alloc);
     let mut place = at;
@@ -134,7 +130,8 @@ fn ended(
 ) -> Result<TypePart, ParseRefusal>
     ensures tree { IfOk result (λ part. machine.finish (state_of reader.old) ≡ Some part.ty.ty) }
     ensures places { IfOk result (λ part. (part.ty.first ≡ first) × (part.next ≡ next)) }
-    ensures refusal { IfErr result (λ refusal. (refusal ≡ NoMemory) ⊎ ((refusal ≡ Syntax next) × (machine.finish (state_of reader.old) ≡ None))) }
+    ensures refusal { IfErr result (λ refusal.
+        (refusal ≡ NoMemory) ⊎ ((refusal ≡ Syntax next) × (machine.finish (state_of reader.old) ≡ None))) }
 {
     match reader.finish(alloc)? {
         None => Err(ParseRefusal::Syntax(next)),

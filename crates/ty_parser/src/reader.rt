@@ -1,27 +1,26 @@
 // A reader of types that takes one token at a time.
 ghost use Rattle.std.specs.Prelude.{◌≡◌, ℕ, ◌<◌, ◌^◌, IfOk, is_some};
-ghost use Rattle.ty_parser.specs.Machine as machine;
-ghost use Rattle.ty_parser.specs.Machine.{state_of, stack_of, taken};
+ghost use Rattle.ty_parser.specs.machine.Machine as machine;
+ghost use Rattle.ty_parser.specs.machine.Machine.{state_of, stack_of, taken};
 
 use crate::accepts::{can_brace, can_colon, can_want};
 use crate::sort::Sort;
-use crate::stack::Stack;
 use crate::steps::{fresh, whole};
 use crate::tree::{FieldExp, TyExp};
-use sig_base::{List, NoMemory};
+use sig_base::{List, NoMemory, Stack};
 use std::alloc::Global;
 
 /// How many types were read of a level before its last operand: the sides before arrows, and after them
-/// the parts before stars.
+/// the components before stars.
 #[derive(Clone, Copy, Debug)]
-pub struct LevelSize {
-    pub sides: usize,
-    pub parts: usize,
+pub(crate) struct LevelSize {
+    pub(crate) sides: usize,
+    pub(crate) parts: usize,
 }
 
 /// What is open, with the size of the level in which it was opened.
 #[derive(Clone, Copy, Debug)]
-pub enum Opening {
+pub(crate) enum Opening {
     /// A parenthesis, and how many types stand before commas.
     Parens(LevelSize, usize),
     /// A brace, how many fields stand before commas, and the label of the field that is read.
@@ -30,7 +29,7 @@ pub enum Opening {
 
 /// What a reader wants or has at the innermost level.
 #[derive(Clone, Copy, Debug)]
-pub enum Stage {
+pub(crate) enum Stage {
     /// An operand is wanted.
     Wants,
     /// There is an operand, which may go on: a type variable, a record, or a type in parentheses.
@@ -47,23 +46,24 @@ pub enum Stage {
     WantsTycon,
 }
 
-/// A reader of one type, which is handed its tokens one at a time.
+/// A reader of one type, which is handed its tokens one at a time. What it has read is told by the states of
+/// specs/machine, for the parser of files, which holds one.
 #[derive(Debug, Drop)]
 pub struct Reader {
-    /// The types of all levels, the outermost first: sides, parts, then the arguments of a parenthesis.
-    pub types: Stack<TyExp>,
+    /// The types of all levels, the outermost first: sides, components, then the arguments of a parenthesis.
+    pub(crate) types: Stack<TyExp>,
     /// The fields of all braces, the outermost first.
-    pub fields: Stack<FieldExp>,
+    pub(crate) fields: Stack<FieldExp>,
     /// What is open, the outermost first.
-    pub around: Stack<Opening>,
+    pub(crate) around: Stack<Opening>,
     /// The innermost level.
-    pub level: LevelSize,
-    pub stage: Stage,
+    pub(crate) level: LevelSize,
+    pub(crate) stage: Stage,
     /// The operand that there is, where it is no application.
-    pub operand: TyExp,
+    pub(crate) operand: TyExp,
     /// The arguments, and the constructors after them, where it is one.
-    pub arguments: List<TyExp>,
-    pub constructors: List<u32>,
+    pub(crate) arguments: List<TyExp>,
+    pub(crate) constructors: List<u32>,
 }
 
 // How many braces are open that aren't held yet.
@@ -118,8 +118,8 @@ impl Reader {
         self.around.len() as u32 + more
     }
 
-    /// Whether a token of this sort can stand next.
-    #[tactic(auto, unfolding(crate::specs::Machine::label, crate::specs::Machine::tycon))]
+    /// Whether a token of this sort can stand next. Nothing is handed over.
+    #[tactic(auto, unfolding(crate::specs::machine::Machine::label, crate::specs::machine::Machine::tycon))]
     pub fn accepts(&self, sort: Sort) -> bool
         ensures value { (place : ℕ) → result ≡ is_some (machine.step (state_of self.now) (place, sort)) }
     {
@@ -134,9 +134,11 @@ impl Reader {
         }
     }
 
-    /// Hands over the token with this number and sort; false exactly where it cannot stand there.
+    /// Hands over the token with this number and sort; false exactly where it cannot stand there. After that,
+    /// and where memory was wanting, the reader is spent: only `restart` makes it one that has read nothing.
     pub fn next(&mut self, alloc: Global, place: u32, sort: Sort) -> Result<bool, NoMemory>
-        ensures value { IfOk result (λ can. taken can (state_of self.new) ≡ machine.step (state_of self.old) (place, sort)) }
+        ensures value { IfOk result (λ can. taken can (state_of self.new)
+            ≡ machine.step (state_of self.old) (place, sort)) }
     {
         match self.stage {
             Stage::Wants => self.want(alloc, place, sort),
@@ -149,9 +151,10 @@ impl Reader {
         }
     }
 
-    /// The type that was read; `None` exactly where it cannot end here.
+    // The type that was read; `None` exactly where it cannot end here.
     fn closed(&mut self, last: TyExp) -> Result<Option<TyExp>, NoMemory>
-        ensures { IfOk result (λ o. o ≡ machine.closed (stack_of self.old).outer (machine.whole (stack_of self.old).level last)) }
+        ensures { IfOk result (λ o.
+            o ≡ machine.closed (stack_of self.old).outer (machine.whole (stack_of self.old).level last)) }
     {
         if !self.around.is_empty() {
             return Ok(None);
@@ -160,7 +163,7 @@ impl Reader {
         Ok(Some(ty))
     }
 
-    /// The type that was read; `None` exactly where it cannot end here.
+    /// The type that was read; `None` exactly where it cannot end here. Either way the reader is spent.
     pub fn finish(&mut self, alloc: Global) -> Result<Option<TyExp>, NoMemory>
         ensures value { IfOk result (λ o. o ≡ machine.finish (state_of self.old)) }
     {

@@ -1,8 +1,9 @@
 // What a token is to the grammars.
 ghost use Rattle.std.specs.Prelude.{◌≡◌, ◌-◌, ◌≤◌, length, slice_index};
+ghost use Rattle.sig_base.specs.Identifiers.{is_alphanumeric_byte};
 ghost use Rattle.ty_parser.specs.Sorts as spec;
 
-use sig_base::Word;
+use sig_base::{Word, is_alphanumeric_byte};
 use sml_lexer::{Token, TokenKind};
 
 /// What a token is to the grammars of types and of files.
@@ -28,17 +29,11 @@ pub enum Sort {
     Numeral,
 }
 
-fn is_alphanumeric(b: u8) -> bool
-    ensures { result ≡ spec.is_alphanumeric b }
-{
-    b.is_ascii_alphanumeric() || b == b'\'' || b == b'_'
-}
-
 fn ends_alphanumeric(text: &[u8]) -> bool
-    ensures { result ≡ spec.is_alphanumeric (slice_index text.now (length text.now - 1)) }
+    ensures { result ≡ is_alphanumeric_byte (slice_index text.now (length text.now - 1)) }
 {
     match text.last() {
-        Some(b) => is_alphanumeric(*b),
+        Some(b) => is_alphanumeric_byte(*b),
         None => false,
     }
 }

@@ -1,14 +1,14 @@
 // What each stage of a reader becomes by a token.
 ghost use Rattle.std.specs.Prelude.{◌≡◌, ◌+◌, [], ◌∷◌, IfOk, OnOk, reverse};
-ghost use Rattle.ty_parser.specs.Machine as machine;
-ghost use Rattle.ty_parser.specs.Operands.{Alone, Applied};
-ghost use Rattle.ty_parser.specs.Machine.{last_of, before_last, level_of, before_level, levels_of, levels_over, opened_of, state_of, stack_of, tree_of, taken};
+ghost use Rattle.ty_parser.specs.machine.Machine as machine;
+ghost use Rattle.ty_parser.specs.machine.Operands.{Alone, Applied};
+ghost use Rattle.sig_base.specs.Stacks.{last_of, before_last};
+ghost use Rattle.ty_parser.specs.machine.Machine.{level_of, before_level, levels_of, levels_over, opened_of, state_of, stack_of, tree_of, taken};
 
 use crate::reader::{LevelSize, Opening, Reader, Stage};
 use crate::sort::Sort;
-use crate::stack::{Stack, one_more};
 use crate::tree::{FieldExp, TyExp};
-use sig_base::{List, NoMemory, Word};
+use sig_base::{List, NoMemory, Stack, Word};
 use std::alloc::Global;
 use std::mem;
 
@@ -20,7 +20,7 @@ fn one<T: Drop>(alloc: Global, item: T) -> Result<List<T>, NoMemory>
     Ok(List::from_vec(all))
 }
 
-pub fn fresh() -> LevelSize
+pub(crate) fn fresh() -> LevelSize
     ensures { result ≡ record { sides = 0; parts = 0 } }
 {
     LevelSize { sides: 0, parts: 0 }
@@ -34,8 +34,8 @@ fn tuple(types: &mut Stack<TyExp>, count: usize, last: TyExp) -> Result<TyExp, N
     if types.has_none(count) {
         return Ok(last);
     }
-    types.push(last)?;
-    let parts = types.take_last(one_more(count)?)?;
+    let all = types.push_counted(count, last)?;
+    let parts = types.take_last(all)?;
     Ok(TyExp::Tuple(parts))
 }
 
@@ -47,14 +47,18 @@ fn arrows(types: &mut Stack<TyExp>, count: usize, last: TyExp) -> Result<TyExp, 
     if types.has_none(count) {
         return Ok(last);
     }
-    types.push(last)?;
-    let sides = types.take_last(one_more(count)?)?;
+    let all = types.push_counted(count, last)?;
+    let sides = types.take_last(all)?;
     Ok(TyExp::Arrows(sides))
 }
 
 // A level as one type, with its last operand: it is taken off.
-#[tactic(auto, unfolding(crate::specs::Machine::whole))]
-pub fn whole(types: &mut Stack<TyExp>, level: LevelSize, last: TyExp) -> Result<TyExp, NoMemory>
+#[tactic(auto, unfolding(crate::specs::machine::Machine::whole))]
+pub(crate) fn whole(
+    types: &mut Stack<TyExp>,
+    level: LevelSize,
+    last: TyExp,
+) -> Result<TyExp, NoMemory>
     ensures ty { IfOk result (λ ty. ty ≡ machine.whole (level_of level types.old) last) }
     ensures rest { OnOk result (types.new ≡ before_level level types.old) }
 {
@@ -69,7 +73,7 @@ pub fn whole(types: &mut Stack<TyExp>, level: LevelSize, last: TyExp) -> Result<
 
 impl Reader {
     /// The operand, where it is no application: it is taken out.
-    pub fn take_operand(&mut self) -> TyExp
+    pub(crate) fn take_operand(&mut self) -> TyExp
         ensures operand { result ≡ self.old.operand }
         ensures levels { stack_of self.new ≡ stack_of self.old }
     {
@@ -77,7 +81,7 @@ impl Reader {
     }
 
     /// The operand, where it is an application: it is taken out.
-    pub fn take_applied(&mut self, alloc: Global) -> TyExp
+    pub(crate) fn take_applied(&mut self, alloc: Global) -> TyExp
         ensures operand { result ≡ tree_of (Applied self.old.arguments self.old.constructors) }
         ensures levels { stack_of self.new ≡ stack_of self.old }
     {
@@ -88,7 +92,8 @@ impl Reader {
 
     // Begins the constructors behind the arguments.
     fn applied(&mut self, alloc: Global, place: u32) -> Result<(), NoMemory>
-        ensures { OnOk result (state_of self.new ≡ machine.Have (stack_of self.old) (Applied self.old.arguments (place ∷ []))) }
+        ensures { OnOk result (state_of self.new
+            ≡ machine.Have (stack_of self.old) (Applied self.old.arguments (place ∷ []))) }
     {
         self.constructors = one(alloc, place)?;
         self.stage = Stage::HasApplied;
@@ -98,8 +103,7 @@ impl Reader {
     fn with_part(&mut self, part: TyExp) -> Result<(), NoMemory>
         ensures { OnOk result (state_of self.new ≡ machine.Want (machine.with_part (stack_of self.old) part)) }
     {
-        self.types.push(part)?;
-        let parts = one_more(self.level.parts)?;
+        let parts = self.types.push_counted(self.level.parts, part)?;
         self.level.parts = parts;
         self.stage = Stage::Wants;
         Ok(())
@@ -109,8 +113,7 @@ impl Reader {
         ensures { OnOk result (state_of self.new ≡ machine.Want (machine.with_side (stack_of self.old) part)) }
     {
         let side = tuple(&mut self.types, self.level.parts, part)?;
-        self.types.push(side)?;
-        let sides = one_more(self.level.sides)?;
+        let sides = self.types.push_counted(self.level.sides, side)?;
         self.level.sides = sides;
         self.level.parts = 0;
         self.stage = Stage::Wants;
@@ -120,7 +123,8 @@ impl Reader {
     // Begins a level inside of what is opened.
     fn open(&mut self, opening: Opening) -> Result<(), NoMemory>
         ensures { OnOk result (state_of self.new
-            ≡ machine.Want (machine.stack (opened_of (opening ∷ reverse self.old.around) self.old.types self.old.fields) machine.fresh)) }
+            ≡ machine.Want (machine.stack
+            (opened_of (opening ∷ reverse self.old.around) self.old.types self.old.fields) machine.fresh)) }
     {
         self.around.push(opening)?;
         self.level = fresh();
@@ -142,15 +146,15 @@ impl Reader {
             None => Ok(false),
             Some(Opening::Parens(outer, count)) => {
                 let ty = whole(&mut self.types, self.level, last)?;
-                self.types.push(ty)?;
-                self.open(Opening::Parens(outer, one_more(count)?))?;
+                let types = self.types.push_counted(count, ty)?;
+                self.open(Opening::Parens(outer, types))?;
                 Ok(true)
             }
             Some(Opening::Braces(outer, count, label)) => {
                 let ty = whole(&mut self.types, self.level, last)?;
-                self.fields.push(FieldExp { label, ty })?;
+                let fields = self.fields.push_counted(count, FieldExp { label, ty })?;
                 self.level = outer;
-                self.stage = Stage::WantsLabel(one_more(count)?);
+                self.stage = Stage::WantsLabel(fields);
                 Ok(true)
             }
         }
@@ -159,15 +163,16 @@ impl Reader {
     // What comes of the last so many types in parentheses, and one more.
     fn enclosed(&mut self, count: usize, last: TyExp) -> Result<(), NoMemory>
         ensures { OnOk result (state_of self.new ≡ machine.enclosed
-            (levels_of self.old.around self.old.level (before_last count self.old.types) self.old.fields) (last_of count self.old.types) last) }
+            (levels_of self.old.around self.old.level (before_last count self.old.types) self.old.fields)
+            (last_of count self.old.types) last) }
     {
         if self.types.has_none(count) {
             self.operand = last;
             self.stage = Stage::HasType;
             return Ok(());
         }
-        self.types.push(last)?;
-        self.arguments = self.types.take_last(one_more(count)?)?;
+        let all = self.types.push_counted(count, last)?;
+        self.arguments = self.types.take_last(all)?;
         self.stage = Stage::WantsTycon;
         Ok(())
     }
@@ -197,8 +202,8 @@ impl Reader {
             Some(Opening::Parens(_, _)) => Ok(false),
             Some(Opening::Braces(outer, count, label)) => {
                 let ty = whole(&mut self.types, self.level, last)?;
-                self.fields.push(FieldExp { label, ty })?;
-                let fields = self.fields.take_last(one_more(count)?)?;
+                let all = self.fields.push_counted(count, FieldExp { label, ty })?;
+                let fields = self.fields.take_last(all)?;
                 self.level = outer;
                 self.operand = TyExp::Fields(fields);
                 self.stage = Stage::HasType;
@@ -207,9 +212,10 @@ impl Reader {
         }
     }
 
-    #[tactic(auto, unfolding(crate::specs::Machine::begin))]
+    #[tactic(auto, unfolding(crate::specs::machine::Machine::begin))]
     fn begin(&mut self, place: u32, sort: Sort) -> Result<bool, NoMemory>
-        ensures { IfOk result (λ can. taken can (state_of self.new) ≡ machine.begin (stack_of self.old) place sort) }
+        ensures { IfOk result (λ can. taken can (state_of self.new)
+            ≡ machine.begin (stack_of self.old) place sort) }
     {
         match sort {
             Sort::Variable => {
@@ -229,9 +235,10 @@ impl Reader {
         }
     }
 
-    #[tactic(auto, unfolding(crate::specs::Machine::want))]
-    pub fn want(&mut self, alloc: Global, place: u32, sort: Sort) -> Result<bool, NoMemory>
-        ensures { IfOk result (λ can. taken can (state_of self.new) ≡ machine.want (stack_of self.old) place sort) }
+    #[tactic(auto, unfolding(crate::specs::machine::Machine::want))]
+    pub(crate) fn want(&mut self, alloc: Global, place: u32, sort: Sort) -> Result<bool, NoMemory>
+        ensures { IfOk result (λ can. taken can (state_of self.new)
+            ≡ machine.want (stack_of self.old) place sort) }
     {
         if sort.is_long_tycon() {
             self.arguments = List::new(alloc);
@@ -242,9 +249,10 @@ impl Reader {
         }
     }
 
-    #[tactic(auto, unfolding(crate::specs::Machine::leave))]
+    #[tactic(auto, unfolding(crate::specs::machine::Machine::leave))]
     fn leave(&mut self, last: TyExp, sort: Sort) -> Result<bool, NoMemory>
-        ensures { IfOk result (λ can. taken can (state_of self.new) ≡ machine.leave (stack_of self.old) last sort) }
+        ensures { IfOk result (λ can. taken can (state_of self.new)
+            ≡ machine.leave (stack_of self.old) last sort) }
     {
         match sort {
             Sort::Star => {
@@ -263,9 +271,15 @@ impl Reader {
     }
 
     // Hands over a token behind a type variable, a record or a type in parentheses.
-    #[tactic(auto, unfolding(crate::specs::Machine::have, crate::specs::Machine::with_constructor))]
-    pub fn have_type(&mut self, alloc: Global, place: u32, sort: Sort) -> Result<bool, NoMemory>
-        ensures { IfOk result (λ can. taken can (state_of self.new) ≡ machine.have (stack_of self.old) (Alone self.old.operand) place sort) }
+    #[tactic(auto, unfolding(crate::specs::machine::Machine::have, crate::specs::machine::Machine::with_constructor))]
+    pub(crate) fn have_type(
+        &mut self,
+        alloc: Global,
+        place: u32,
+        sort: Sort,
+    ) -> Result<bool, NoMemory>
+        ensures { IfOk result (λ can. taken can (state_of self.new)
+            ≡ machine.have (stack_of self.old) (Alone self.old.operand) place sort) }
     {
         let operand = self.take_operand();
         if sort.is_long_tycon() {
@@ -278,9 +292,15 @@ impl Reader {
     }
 
     // Hands over a token behind a constructor.
-    #[tactic(auto, unfolding(crate::specs::Machine::have, crate::specs::Machine::with_constructor))]
-    pub fn have_applied(&mut self, alloc: Global, place: u32, sort: Sort) -> Result<bool, NoMemory>
-        ensures { IfOk result (λ can. taken can (state_of self.new) ≡ machine.have (stack_of self.old) (Applied self.old.arguments self.old.constructors) place sort) }
+    #[tactic(auto, unfolding(crate::specs::machine::Machine::have, crate::specs::machine::Machine::with_constructor))]
+    pub(crate) fn have_applied(
+        &mut self,
+        alloc: Global,
+        place: u32,
+        sort: Sort,
+    ) -> Result<bool, NoMemory>
+        ensures { IfOk result (λ can. taken can (state_of self.new)
+            ≡ machine.have (stack_of self.old) (Applied self.old.arguments self.old.constructors) place sort) }
     {
         if sort.is_long_tycon() {
             self.constructors.push(place)?;
@@ -292,8 +312,8 @@ impl Reader {
         }
     }
 
-    #[tactic(auto, unfolding(crate::specs::Machine::brace, crate::specs::Machine::no_fields))]
-    pub fn brace(&mut self, alloc: Global, place: u32, sort: Sort) -> bool
+    #[tactic(auto, unfolding(crate::specs::machine::Machine::brace, crate::specs::machine::Machine::no_fields))]
+    pub(crate) fn brace(&mut self, alloc: Global, place: u32, sort: Sort) -> bool
         ensures { taken result (state_of self.new) ≡ machine.brace (stack_of self.old) place sort }
     {
         if sort.is_label() {
@@ -310,10 +330,11 @@ impl Reader {
         }
     }
 
-    #[tactic(auto, unfolding(crate::specs::Machine::label))]
-    pub fn label(&mut self, count: usize, place: u32, sort: Sort) -> bool
+    #[tactic(auto, unfolding(crate::specs::machine::Machine::label))]
+    pub(crate) fn label(&mut self, count: usize, place: u32, sort: Sort) -> bool
         ensures { taken result (state_of self.new)
-            ≡ machine.label (levels_over self.old (before_last count self.old.fields)) (last_of count self.old.fields) place sort }
+            ≡ machine.label (levels_over self.old (before_last count self.old.fields))
+            (last_of count self.old.fields) place sort }
     {
         if sort.is_label() {
             self.stage = Stage::WantsColon(count, place);
@@ -323,10 +344,11 @@ impl Reader {
         }
     }
 
-    #[tactic(auto, unfolding(crate::specs::Machine::colon, crate::specs::Machine::inside_field))]
-    pub fn colon(&mut self, count: usize, label: u32, sort: Sort) -> Result<bool, NoMemory>
+    #[tactic(auto, unfolding(crate::specs::machine::Machine::colon, crate::specs::machine::Machine::inside_field))]
+    pub(crate) fn colon(&mut self, count: usize, label: u32, sort: Sort) -> Result<bool, NoMemory>
         ensures { IfOk result (λ can. taken can (state_of self.new)
-            ≡ machine.colon (levels_over self.old (before_last count self.old.fields)) (last_of count self.old.fields) label sort) }
+            ≡ machine.colon (levels_over self.old (before_last count self.old.fields))
+            (last_of count self.old.fields) label sort) }
     {
         match sort {
             Sort::Reserved(Word::KwColon) => {
@@ -337,9 +359,10 @@ impl Reader {
         }
     }
 
-    #[tactic(auto, unfolding(crate::specs::Machine::tycon))]
-    pub fn tycon(&mut self, alloc: Global, place: u32, sort: Sort) -> Result<bool, NoMemory>
-        ensures { IfOk result (λ can. taken can (state_of self.new) ≡ machine.tycon (stack_of self.old) self.old.arguments place sort) }
+    #[tactic(auto, unfolding(crate::specs::machine::Machine::tycon))]
+    pub(crate) fn tycon(&mut self, alloc: Global, place: u32, sort: Sort) -> Result<bool, NoMemory>
+        ensures { IfOk result (λ can. taken can (state_of self.new)
+            ≡ machine.tycon (stack_of self.old) self.old.arguments place sort) }
     {
         if sort.is_long_tycon() {
             self.applied(alloc, place)?;

@@ -1,111 +1,171 @@
 // Texts with the trees of their tokens, or the token at which they stop being a type or nest too deep.
-use crate::{FieldExp, ParseRefusal, TyExp, parse_type, read_type};
+use crate::{FieldExp, ParseRefusal, TyExp, TypeAt, TypePart, parse_type, read_type};
 use sig_base::{NoMemory, Text};
 use sml_lexer::lex;
-use std::alloc::{AllocError, Global};
-use std::process::Abort;
+use std::alloc::Global;
 use std::test::Fail;
 
-// A tree in one line: variables, labels and constructors are the numbers of their tokens, the last after
-// the arguments and a semicolon.
-#[cycle(show)]
-fn show(alloc: Global, ty: &TyExp) -> Result<String, AllocError> {
+fn write_digit(out: &mut Text, n: u32) -> Result<(), NoMemory> {
+    out.push(b'0' + (n % 10) as u8)
+}
+
+// A number below 1000.
+fn write_number(out: &mut Text, n: u32) -> Result<(), NoMemory> {
+    if n >= 100 {
+        write_digit(out, n / 100)?;
+    }
+    if n >= 10 {
+        write_digit(out, n / 10)?;
+    }
+    write_digit(out, n)
+}
+
+// Variables, labels and constructors are the numbers of their tokens, the last after the arguments and a
+// semicolon.
+#[cycle(write)]
+fn write_type(out: &mut Text, ty: &TyExp) -> Result<(), NoMemory> {
     match ty {
-        TyExp::Var(place) => format!(in alloc; "'{place}"),
+        TyExp::Var(place) => {
+            out.push(b'\'')?;
+            write_number(out, *place)
+        }
         TyExp::Fields(fields) => {
-            let fields = show_fields(alloc, fields.as_slice())?;
-            format!(in alloc; "{{{fields}}}")
+            out.push(b'{')?;
+            write_fields(out, fields.as_slice())?;
+            out.push(b'}')
         }
         TyExp::Tuple(parts) => {
-            let parts = show_all(alloc, parts.as_slice(), " * ")?;
-            format!(in alloc; "({parts})")
+            out.push(b'(')?;
+            write_all(out, parts.as_slice(), b" * ")?;
+            out.push(b')')
         }
         TyExp::Arrows(sides) => {
-            let sides = show_all(alloc, sides.as_slice(), " -> ")?;
-            format!(in alloc; "({sides})")
+            out.push(b'(')?;
+            write_all(out, sides.as_slice(), b" -> ")?;
+            out.push(b')')
         }
         TyExp::Apply(arguments, constructors) => {
-            let arguments = show_all(alloc, arguments.as_slice(), ", ")?;
-            let constructors = show_places(alloc, constructors.as_slice())?;
-            format!(in alloc; "[{arguments};{constructors}]")
+            out.push(b'[')?;
+            write_all(out, arguments.as_slice(), b", ")?;
+            write_places(out, constructors.as_slice())
         }
     }
 }
 
-#[cycle(show)]
-fn show_all(alloc: Global, trees: &[TyExp], between: &str) -> Result<String, AllocError> {
-    let mut shown = String::new(alloc);
-    for tree in trees {
-        if !shown.is_empty() {
-            shown.push_str(between)?;
+#[cycle(write)]
+fn write_all(out: &mut Text, trees: &[TyExp], between: &[u8]) -> Result<(), NoMemory> {
+    for (i, tree) in trees.iter().enumerate() {
+        if i > 0 {
+            out.extend(between)?;
         }
-        shown.push_str(&show(alloc, tree)?)?;
+        write_type(out, tree)?;
     }
-    Ok(shown)
+    Ok(())
 }
 
-#[cycle(show)]
-fn show_fields(alloc: Global, fields: &[FieldExp]) -> Result<String, AllocError> {
-    let mut shown = String::new(alloc);
-    for field in fields {
-        if !shown.is_empty() {
-            shown.push_str(", ")?;
+#[cycle(write)]
+fn write_fields(out: &mut Text, fields: &[FieldExp]) -> Result<(), NoMemory> {
+    for (i, field) in fields.iter().enumerate() {
+        if i > 0 {
+            out.extend(b", ")?;
         }
-        let ty = show(alloc, &field.ty)?;
-        shown.push_str(&format!(in alloc; "{}: {ty}", field.label)?)?;
+        write_number(out, field.label)?;
+        out.extend(b": ")?;
+        write_type(out, &field.ty)?;
     }
-    Ok(shown)
+    Ok(())
 }
 
-fn show_places(alloc: Global, places: &[u32]) -> Result<String, AllocError> {
-    let mut shown = String::new(alloc);
+fn write_places(out: &mut Text, places: &[u32]) -> Result<(), NoMemory> {
+    out.push(b';')?;
     for place in places {
-        shown.push_str(&format!(in alloc; " {place}")?)?;
+        out.push(b' ')?;
+        write_number(out, *place)?;
     }
-    Ok(shown)
+    out.push(b']')
 }
 
-fn show_refusal(alloc: Global, refusal: ParseRefusal) -> Result<String, AllocError> {
+fn write_refusal(out: &mut Text, refusal: &ParseRefusal) -> Result<(), NoMemory> {
     match refusal {
-        ParseRefusal::Syntax(place) => format!(in alloc; "stops at {place}"),
-        ParseRefusal::TooDeep(place) => format!(in alloc; "too deep at {place}"),
-        ParseRefusal::NoMemory => format!(in alloc; "no memory"),
-    }
-}
-
-// What reading a text gives.
-fn outcome(rt: &impl Abort, alloc: Global, text: &[u8]) -> Result<String, Fail> {
-    assert!(rt; text.len() <= 4_194_304);
-    let tokens = lex(alloc, text)?;
-    match parse_type(alloc, text, tokens.as_slice()) {
-        Ok(found) => {
-            assert_eq!(rt; found.first, 0);
-            Ok(show(alloc, &found.ty)?)
+        ParseRefusal::Syntax(place) => {
+            out.extend(b"stops at ")?;
+            write_number(out, *place)
         }
-        Err(refusal) => Ok(show_refusal(alloc, refusal)?),
+        ParseRefusal::TooDeep(place) => {
+            out.extend(b"too deep at ")?;
+            write_number(out, *place)
+        }
+        ParseRefusal::NoMemory => out.extend(b"no memory"),
     }
 }
 
-// What reading a part of a text gives, with the number of the token after it.
-fn outcome_from(
-    rt: &impl Abort,
+fn parsed(alloc: Global, text: &[u8]) -> Result<TypeAt, ParseRefusal> {
+    if text.len() > 4_194_304 {
+        return Err(ParseRefusal::NoMemory);
+    }
+    match lex(alloc, text) {
+        Ok(tokens) => parse_type(alloc, text, tokens.as_slice()),
+        Err(_) => Err(ParseRefusal::NoMemory),
+    }
+}
+
+fn write_outcome(out: &mut Text, found: &Result<TypeAt, ParseRefusal>) -> Result<(), NoMemory> {
+    match found {
+        Ok(found) => write_type(out, &found.ty),
+        Err(refusal) => write_refusal(out, refusal),
+    }
+}
+
+// Whether this line is what reading a text gives.
+fn gives(alloc: Global, text: &[u8], wanted: &str) -> Result<bool, NoMemory> {
+    let mut out = Text::new(alloc);
+    write_outcome(&mut out, &parsed(alloc, text))?;
+    Ok(out.as_slice() == wanted.as_bytes())
+}
+
+fn part_of(alloc: Global, text: &[u8], at: u32, depth: u32) -> Result<TypePart, ParseRefusal> {
+    if text.len() > 4_194_304 || depth > 200 {
+        return Err(ParseRefusal::NoMemory);
+    }
+    match lex(alloc, text) {
+        Ok(tokens) if at as usize <= tokens.len() => read_type(
+            alloc,
+            text,
+            tokens.as_slice(),
+            at,
+            depth,
+        ),
+        _ => Err(ParseRefusal::NoMemory),
+    }
+}
+
+fn write_part(out: &mut Text, part: &TypePart) -> Result<(), NoMemory> {
+    write_type(out, &part.ty.ty)?;
+    out.extend(b" up to ")?;
+    write_number(out, part.next)
+}
+
+fn write_part_outcome(
+    out: &mut Text,
+    found: &Result<TypePart, ParseRefusal>,
+) -> Result<(), NoMemory> {
+    match found {
+        Ok(part) => write_part(out, part),
+        Err(refusal) => write_refusal(out, refusal),
+    }
+}
+
+// Whether this line is what reading a part of a text gives, with the number of the token after it.
+fn part_gives(
     alloc: Global,
-    text: &[u8],
+    text: &str,
     at: u32,
     depth: u32,
-) -> Result<String, Fail> {
-    assert!(rt; text.len() <= 4_194_304);
-    let tokens = lex(alloc, text)?;
-    assert!(rt; at as usize <= tokens.len());
-    assert!(rt; depth <= 200);
-    match read_type(alloc, text, tokens.as_slice(), at, depth) {
-        Ok(part) => {
-            assert_eq!(rt; part.ty.first, at);
-            let ty = show(alloc, &part.ty.ty)?;
-            Ok(format!(in alloc; "{ty} up to {}", part.next)?)
-        }
-        Err(refusal) => Ok(show_refusal(alloc, refusal)?),
-    }
+    wanted: &str,
+) -> Result<bool, NoMemory> {
+    let mut out = Text::new(alloc);
+    write_part_outcome(&mut out, &part_of(alloc, text.as_bytes(), at, depth))?;
+    Ok(out.as_slice() == wanted.as_bytes())
 }
 
 #[test]
@@ -149,90 +209,104 @@ fn reads_types(rt: HostRuntime) -> Result<(), Fail> {
         ("'a * ('b, 'c) t -> {}", "(('0 * ['3, '5; 7]) -> {})"),
     ];
     for (text, want) in rows {
-        let got = outcome(&rt, rt.alloc(), text.as_bytes())?;
-        assert_eq!(rt; got.as_str(), want, "of {text}");
+        assert!(rt; gives(rt.alloc(), text.as_bytes(), want)?, "of {text}");
     }
     Ok(())
 }
+
+fn stops(alloc: Global, text: &[u8], at: u32) -> bool {
+    match parsed(alloc, text) {
+        Err(ParseRefusal::Syntax(place)) => place == at,
+        _ => false,
+    }
+}
+
+const STOPS: [(&str, u32); 50] = [
+    ("", 0),
+    (")", 0),
+    ("*", 0),
+    ("A.*", 0),
+    ("1", 0),
+    ("= int", 0),
+    ("int ->", 2),
+    ("int * -> int", 2),
+    ("int -> -> int", 2),
+    ("int *", 2),
+    ("int * *", 2),
+    ("int A.*", 1),
+    ("int 'a", 1),
+    ("int (int)", 1),
+    ("int {}", 1),
+    ("int , int", 1),
+    ("int )", 1),
+    ("int }", 1),
+    ("int : int", 1),
+    ("int = int", 1),
+    ("int 1", 1),
+    ("(", 1),
+    ("( )", 1),
+    ("(int", 2),
+    ("(int ->) list", 3),
+    ("(int }", 2),
+    ("(int : int)", 2),
+    ("(int,)", 3),
+    ("(, int)", 1),
+    ("(int, int", 4),
+    ("(int, int)", 5),
+    ("(int, int) -> int", 5),
+    ("(int, int) * int", 5),
+    ("(int, int) A.*", 5),
+    ("((int, int))", 6),
+    ("{", 1),
+    ("{ ,", 1),
+    ("{ int", 2),
+    ("{ A.b : int }", 1),
+    ("{ 'a : int }", 1),
+    ("{ a , b }", 2),
+    ("{ a : }", 3),
+    ("{ a : int", 4),
+    ("{ a : int )", 4),
+    ("{ a : int : int }", 4),
+    ("{ a : int , }", 5),
+    ("{ a : int , b", 6),
+    ("{ a : int b : int }", 5),
+    ("{ a : int } }", 5),
+    ("{} : int", 2),
+];
 
 #[test]
 fn stops_at_the_first_wrong_token(rt: HostRuntime) -> Result<(), Fail> {
-    let rows = [
-        ("", 0),
-        (")", 0),
-        ("*", 0),
-        ("A.*", 0),
-        ("1", 0),
-        ("= int", 0),
-        ("int ->", 2),
-        ("int * -> int", 2),
-        ("int -> -> int", 2),
-        ("int *", 2),
-        ("int * *", 2),
-        ("int A.*", 1),
-        ("int 'a", 1),
-        ("int (int)", 1),
-        ("int {}", 1),
-        ("int , int", 1),
-        ("int )", 1),
-        ("int }", 1),
-        ("int : int", 1),
-        ("int = int", 1),
-        ("int 1", 1),
-        ("(", 1),
-        ("( )", 1),
-        ("(int", 2),
-        ("(int ->) list", 3),
-        ("(int }", 2),
-        ("(int : int)", 2),
-        ("(int,)", 3),
-        ("(, int)", 1),
-        ("(int, int", 4),
-        ("(int, int)", 5),
-        ("(int, int) -> int", 5),
-        ("(int, int) * int", 5),
-        ("(int, int) A.*", 5),
-        ("((int, int))", 6),
-        ("{", 1),
-        ("{ ,", 1),
-        ("{ int", 2),
-        ("{ A.b : int }", 1),
-        ("{ 'a : int }", 1),
-        ("{ a , b }", 2),
-        ("{ a : }", 3),
-        ("{ a : int", 4),
-        ("{ a : int )", 4),
-        ("{ a : int : int }", 4),
-        ("{ a : int , }", 5),
-        ("{ a : int , b", 6),
-        ("{ a : int b : int }", 5),
-        ("{ a : int } }", 5),
-        ("{} : int", 2),
-    ];
-    for (text, want) in rows {
-        let got = outcome(&rt, rt.alloc(), text.as_bytes())?;
-        let want = format!(in rt.alloc(); "stops at {want}")?;
-        assert_eq!(rt; got.as_str(), want.as_str(), "of {text}");
+    for (text, want) in STOPS {
+        assert!(rt; stops(rt.alloc(), text.as_bytes(), want), "of {text}");
     }
     Ok(())
 }
 
-fn repeated(
-    alloc: Global,
-    open: &[u8],
-    inner: &[u8],
-    close: &[u8],
-    depth: u32,
-) -> Result<Text, NoMemory> {
+fn push_often(text: &mut Text, bytes: &[u8], count: u32) -> Result<(), NoMemory> {
+    for _ in 0..count {
+        text.extend(bytes)?;
+    }
+    Ok(())
+}
+
+// So many times what opens, then what stands inside, then as often what closes.
+fn repeated(alloc: Global, parts: (&str, &str, &str), depth: u32) -> Result<Text, NoMemory> {
+    let (open, inner, close) = parts;
     let mut text = Text::new(alloc);
-    for _ in 0..depth {
-        text.extend(open)?;
-    }
-    text.extend(inner)?;
-    for _ in 0..depth {
-        text.extend(close)?;
-    }
+    push_often(&mut text, open.as_bytes(), depth)?;
+    text.extend(inner.as_bytes())?;
+    push_often(&mut text, close.as_bytes(), depth)?;
     Ok(text)
+}
+
+fn repeated_gives(
+    alloc: Global,
+    parts: (&str, &str, &str),
+    depth: u32,
+    wanted: &str,
+) -> Result<bool, NoMemory> {
+    let text = repeated(alloc, parts, depth)?;
+    gives(alloc, text.as_slice(), wanted)
 }
 
 #[test]
@@ -251,24 +325,33 @@ fn counts_what_is_open(rt: HostRuntime) -> Result<(), Fail> {
         ("('a) * ", "'a", "", 3, "('1 * '5 * '9 * '12)"),
     ];
     for (open, inner, close, depth, want) in rows {
-        let (open, inner, close) = (open.as_bytes(), inner.as_bytes(), close.as_bytes());
-        let text = repeated(rt.alloc(), open, inner, close, depth)?;
-        let got = outcome(&rt, rt.alloc(), text.as_slice())?;
-        assert_eq!(rt; got.as_str(), want, "{depth} times");
+        let gives = repeated_gives(rt.alloc(), (open, inner, close), depth, want)?;
+        assert!(rt; gives, "{depth} times {open}");
     }
     Ok(())
 }
 
-// Closing makes room: 300 pairs one after the other, and 300 pairs of braces in 199 parentheses.
+// A row of so many pairs of braces, inside as many parentheses as are told.
+fn braces_inside(alloc: Global, count: u32, depth: u32) -> Result<Text, NoMemory> {
+    let mut text = Text::new(alloc);
+    push_often(&mut text, b"(", depth)?;
+    push_often(&mut text, b"{} * ", count)?;
+    text.extend(b"{}")?;
+    push_often(&mut text, b")", depth)?;
+    Ok(text)
+}
+
+fn is_read(alloc: Global, count: u32, depth: u32) -> Result<bool, NoMemory> {
+    let text = braces_inside(alloc, count, depth)?;
+    Ok(parsed(alloc, text.as_slice()).is_ok())
+}
+
+// What is closed makes room.
 #[test]
 fn counts_only_what_stays_open(rt: HostRuntime) -> Result<(), Fail> {
-    let row = repeated(rt.alloc(), b"('a) -> ", b"'a", b"", 300)?;
-    let got = outcome(&rt, rt.alloc(), row.as_slice())?;
-    assert!(rt; got.as_str().starts_with("('1 -> '5 -> '9"));
-    let braces = repeated(rt.alloc(), b"{} * ", b"{}", b"", 300)?;
-    let text = repeated(rt.alloc(), b"(", braces.as_slice(), b")", 199)?;
-    let got = outcome(&rt, rt.alloc(), text.as_slice())?;
-    assert!(rt; got.as_str().starts_with("({} * {} * {}"));
+    for (depth, read) in [(0, true), (199, true), (200, false)] {
+        assert!(rt; is_read(rt.alloc(), 300, depth)? == read, "{depth} deep");
+    }
     Ok(())
 }
 
@@ -293,8 +376,7 @@ fn reads_parts(rt: HostRuntime) -> Result<(), Fail> {
         ("x : 'a -> (('a))", 2, 199, "too deep at 5"),
     ];
     for (text, at, depth, want) in rows {
-        let got = outcome_from(&rt, rt.alloc(), text.as_bytes(), at, depth)?;
-        assert_eq!(rt; got.as_str(), want, "of {text}");
+        assert!(rt; part_gives(rt.alloc(), text, at, depth, want)?, "of {text}");
     }
     Ok(())
 }

@@ -9,7 +9,7 @@ pub enum TyExp {
     Var(u32),
     /// The fields of a record, in the order in which they were written.
     Fields(List<FieldExp>),
-    /// The parts of a tuple, two or more.
+    /// The components of a tuple, two or more.
     Tuple(List<TyExp>),
     /// What stands between arrows, two or more sides: an arrow groups to the right.
     Arrows(List<TyExp>),

@@ -1,6 +1,7 @@
 -- Closing makes schemes, changes none, and undoes each renaming that is one to one and keeps marks.
-use Rattle.std.proofs.Common.{◌≡◌, ℕ, ◌+◌, ◌≤◌, ◌<◌, ◌^◌, List, [], map, length, refl, sym, ap, ◌∙◌, arith}
-use Rattle.std.proofs.lemmas.List.{length-map}
+use Rattle.std.proofs.Common.{◌≡◌, ℕ, ◌+◌, ◌<◌, List, [], ◌∷◌, ◌++◌, map, length, take, get_or, add-one, refl, sym, ap, ap₂, ◌∙◌, subst, arith}
+use Rattle.std.proofs.Math.Seq.{take-suc}
+use Rattle.std.proofs.lemmas.List.{length-map, map-append}
 use Rattle.std.proofs.lemmas.List.FromFn.{length-map-range_with_len}
 use Rattle.std.specs.List.{range_with_len}
 use Rattle.type_core.specs.declared.ty.VarId.{VarId}
@@ -9,14 +10,11 @@ use Rattle.type_core.specs.declared.ty.Ty.{Ty}
 use Rattle.type_core.specs.Renaming.{Renaming, renamed, IsOneToOne, KeepsMarks, AreEqualUpToNames}
 use Rattle.type_core.specs.Schemes.{IsScheme, closed, numbers, numbered_among}
 use Rattle.type_core.specs.Variables.{variables, meet_all, by_first_occurrence}
-use Rattle.type_core.proofs.Places.{Within, nothing_within, variable_eq, meet_all_within, meet_all_length, all_met, meet_all_after, place_after, place_tells, place_is_number, numbered_in_order}
+use Rattle.type_core.proofs.Places.{Within, nothing_within, variable_eq, meet_all_within, all_met, meet_all_after, place_after, place_tells, place_is_number, numbered_in_order, range_last}
 use Rattle.type_core.proofs.Renamed.{variables_renamed, renamed_alike, renamed_renamed, renamed_kept}
 
 scheme_eq : (a b : Scheme) → a.vars ≡ b.vars → a.body ≡ b.body → a ≡ b
 scheme_eq a b e f = λ i. record { vars = e i; body = f i }
-
-variables_fit : (t : Ty) → length (by_first_occurrence t) ≤ length (variables t)
-variables_fit t = omega (arith, meet_all_length [] (variables t))
 
 -- those that are met are variables of the type
 met_occur : (t : Ty) → Within (variables t) (by_first_occurrence t)
@@ -59,8 +57,23 @@ equal_where_renamed a b p q e =
 pub renamed_where_equal : (a b : Scheme) → a.body ≡ b.body → AreEqualUpToNames a b
 renamed_where_equal a b e = (λ v. v, record { one_to_one = λ v w o p h. h; keeps_marks = λ v o. refl; makes = renamed_kept a.body ∙ e })
 
-pub met_fit : (t : Ty) (met : List VarId) → met ≡ by_first_occurrence t → length (variables t) < 2 ^ 32 → length met < 2 ^ 32
-met_fit t met e l = omega (arith, ap length e, variables_fit t, l)
+-- variables whose numbers are their places already keep them
+pub kept_in_order : (t : Ty) (met : List VarId) → met ≡ by_first_occurrence t → numbers met ≡ range_with_len 0 (length met) → renamed (numbered_among met) t ≡ t
+kept_in_order t met e f =
+    let s : Scheme = record { vars = length (by_first_occurrence t); body = t } in
+    let is : IsScheme s = subst (λ vs. numbers vs ≡ range_with_len 0 (length vs)) e f in
+    ap (λ vs. renamed (numbered_among vs) t) e ∙ ap (λ (z : Scheme). z.body) (closed_scheme s is)
+
+zero_more : (i : ℕ) → i ≡ 0 + i
+zero_more i = omega arith
+
+-- one more variable in order
+pub one_more_in_order : (vs : List VarId) (i : ℕ) (d : VarId) → i < length vs → (get_or vs i d).n ≡ i → numbers (take i vs) ≡ range_with_len 0 i
+    → numbers (take (i + 1) vs) ≡ range_with_len 0 (i + 1)
+one_more_in_order vs i d l e f =
+    let w = get_or vs i d in
+    ap (λ j. numbers (take j vs)) (add-one i) ∙ ap numbers (take-suc vs i d l) ∙ map-append (λ (v : VarId). v.n) (take i vs) (w ∷ [])
+    ∙ ap₂ (λ ns n. ns ++ n ∷ []) f (e ∙ zero_more i) ∙ range_last 0 i ∙ ap (range_with_len 0) (sym (add-one i))
 
 pub numbered_is_scheme : (t body : Ty) (met : List VarId) (n : ℕ) → met ≡ by_first_occurrence t → body ≡ renamed (numbered_among met) t → n ≡ length met
     → numbers (by_first_occurrence body) ≡ range_with_len 0 n

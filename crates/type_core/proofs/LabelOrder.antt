@@ -9,7 +9,8 @@ use Rattle.std.specs.Ordering.{is_eq, nat_cmp, on, ordering_then, then_cmp}
 use Rattle.std.specs.Cmp.{IsTotalOrder}
 use Rattle.std.specs.Cmp.Lexicographic.{slice_cmp}
 use Rattle.std.proofs.lemmas.Cmp.{by_ranked, ranked, nat_cmp_total, nat_list_cmp_total, on_total, then_total}
-use Rattle.type_core.specs.Labels.{is_numeral, label_order, value_of}
+use Rattle.sig_base.specs.Identifiers.{is_numeral}
+use Rattle.type_core.specs.Labels.{label_order, value_of}
 use Rattle.type_core.proofs.LabelValues.{longer_greater, same_length, shorter_less}
 
 -- three keys of a label: whether it is a numeral, its value if it is one, and its bytes if it isn't

@@ -7,12 +7,13 @@ use Rattle.std.proofs.lemmas.Cmp.{by_ranked, ranked}
 use Rattle.std.proofs.Math.Nat.{eq-or-lt_of_le}
 use Rattle.std.proofs.lemmas.Bool.Decides.{nat_tests}
 use Rattle.std.specs.Cmp.Lexicographic.{slice_cmp}
+use Rattle.std.specs.List.{list_all}
 use Rattle.type_core.specs.declared.ty.Field.{Field}
-use Rattle.type_core.specs.Labels.{are_in_order, are_record_labels, is_digit, is_numeral, value_after, value_of}
-use Rattle.type_core.specs.Lists.{all_true}
+use Rattle.sig_base.specs.Identifiers.{is_digit, is_numeral}
+use Rattle.type_core.specs.Labels.{are_in_order, are_record_labels, value_after, value_of}
 
 abbrev pub AreDigits : List ℕ → Type 0
-AreDigits text = all_true (map is_digit text) ≡ true
+AreDigits text = list_all is_digit text ≡ true
 
 -- the first of them is a digit, and so are the others
 digit_least : (b : ℕ) (text : List ℕ) → AreDigits (b ∷ text) → 48 ≤ b

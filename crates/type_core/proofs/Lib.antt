@@ -1,10 +1,17 @@
+pub mod ArrowChains
 pub mod Continued
+pub mod Listed
 pub mod Meeting
+pub mod MetVariables
 pub mod NormalSizes
 pub mod LabelValues
+pub mod Insertions
+pub mod KeptParts
+pub mod LabelBytes
 pub mod LabelOrder
 pub mod Places
 pub mod Renamed
+pub mod RenamedMeasures
 pub mod Closed
 pub mod Pushing
 pub mod SchemeVariables

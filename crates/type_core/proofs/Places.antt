@@ -195,7 +195,7 @@ place_new v (x ∷ vs) e = cases (same_variable v x) (λ o. place_new v vs o) e
     cases true next o = contrary refl o
     cases false next o = omega (arith, next o)
 
-range_last : (a n : ℕ) → range_with_len a n ++ (a + n) ∷ [] ≡ range_with_len a (suc n)
+pub range_last : (a n : ℕ) → range_with_len a n ++ (a + n) ∷ [] ≡ range_with_len a (suc n)
 range_last a zero = ap (λ k. k ∷ []) (omega arith)
 range_last a (suc n) = ap (λ z. a ∷ z) (ap (λ k. range_with_len (a + 1) n ++ k ∷ []) (omega arith) ∙ range_last (a + 1) n)
 

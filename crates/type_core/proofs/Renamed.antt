@@ -8,8 +8,8 @@ use Rattle.type_core.specs.declared.ty.Ty.TheVariants as ty
 use Rattle.type_core.specs.Lists.{concatenated, sum_of}
 use Rattle.type_core.specs.Renaming.{Renaming, renamed, field_renamed}
 use Rattle.type_core.specs.Size.{size_of, field_size}
-use Rattle.type_core.specs.Variables.{variables, field_variables, occurs}
-use Rattle.type_core.proofs.Places.{occurs_here, occurs_left, occurs_right}
+use Rattle.type_core.specs.Variables.{by_first_occurrence, variables, field_variables, occurs}
+use Rattle.type_core.proofs.Places.{meet_all_length, occurs_here, occurs_left, occurs_right}
 use Rattle.type_core.proofs.Trees.{EachOf, AtField, induct_type, variables_var, variables_con, variables_rec, variables_tup, variables_arrow, variables_field, renamed_var, renamed_con, renamed_rec, renamed_tup, renamed_arrow, renamed_field, size_var, size_con, size_rec, size_tup, size_arrow, size_field}
 
 pub field_eq : (f g : Field) → f.label ≡ g.label → f.ty ≡ g.ty → f ≡ g
@@ -124,7 +124,7 @@ renamed_kept = induct_type IsKept
     (λ ts ihs. renamed_tup kept ts ∙ ap ty.Tup (all_kept ts ihs))
     (λ a b p q. renamed_arrow kept a b ∙ ap₂ ty.Arrow p q)
 
--- a type has no more variables than nodes
+-- a type has no more variables than nodes, however often they occur
 abbrev IsBounded : Ty → Type 0
 IsBounded t = length (variables t) ≤ size_of t
 
@@ -136,10 +136,13 @@ fields_bounded : (fs : List Field) → EachOf (AtField IsBounded) fs → length 
 fields_bounded [] ihs = omega arith
 fields_bounded (f ∷ fs) ihs = omega (arith, length-append (field_variables f) (concatenated (map field_variables fs)), ap length (variables_field f), size_field f, ihs.0, fields_bounded fs ihs.1)
 
-pub variables_bounded : (t : Ty) → length (variables t) ≤ size_of t
-variables_bounded = induct_type IsBounded
+occurrences_bounded : (t : Ty) → length (variables t) ≤ size_of t
+occurrences_bounded = induct_type IsBounded
     (λ v. omega (arith, ap length (variables_var v), size_var v))
     (λ name ts ihs. omega (arith, ap length (variables_con name ts), size_con name ts, all_bounded ts ihs))
     (λ fs ihs. omega (arith, ap length (variables_rec fs), size_rec fs, fields_bounded fs ihs))
     (λ ts ihs. omega (arith, ap length (variables_tup ts), size_tup ts, all_bounded ts ihs))
     (λ a b p q. omega (arith, ap length (variables_arrow a b), length-append (variables a) (variables b), size_arrow a b, p, q))
+
+pub variables_bounded : (t : Ty) → length (by_first_occurrence t) ≤ size_of t
+variables_bounded t = omega (arith, meet_all_length [] (variables t), occurrences_bounded t)

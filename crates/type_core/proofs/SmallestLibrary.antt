@@ -1,9 +1,10 @@
 -- The library of no files is valid.
 use Rattle.std.proofs.Common.{◌≡◌, [], refl, arith}
 use Rattle.std.specs.List.{All}
+use Rattle.sig_base.proofs.Distinct.{no_pairs}
 use Rattle.type_core.specs.declared.library.Library.{Library}
 use Rattle.type_core.specs.InitialNames.{initial_names}
-use Rattle.type_core.specs.ValidLibrary.{AreDistinct, IsValidLibrary}
+use Rattle.type_core.specs.ValidLibrary.{IsValidLibrary}
 use Rattle.type_core.specs.Weight.{library_weight}
 
 abbrev pub smallest : Library
@@ -11,9 +12,6 @@ smallest = record { units = []; names = initial_names; tycons = []; members = []
 
 none : {A : Type 0} (P : A → Type 0) → All P []
 none P k d l = absurd (omega arith)
-
-no_pairs : {A : Type 0} → AreDistinct {A = A} []
-no_pairs i j d l m e = absurd (omega arith)
 
 weightless : library_weight smallest ≡ 0
 unfolding library_weight

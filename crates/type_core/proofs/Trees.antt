@@ -19,7 +19,7 @@ use Rattle.type_core.specs.Renaming.{Renaming, renamed, field_renamed, rename_st
 use Rattle.type_core.specs.Size.{size_of, field_size, size_step, size_field_step}
 use Rattle.type_core.specs.Substitution.{each_field_variable, each_variable, field_substituted, or_variable, substitute_field_step, substitute_step, substituted, each_field_step, each_step}
 use Rattle.type_core.specs.Weight.{labels_field_step, labels_of, labels_step}
-use Rattle.type_core.specs.Variables.{variables, field_variables, variables_step, variables_field_step}
+use Rattle.type_core.specs.Variables.{variables, field_variables, variables_step}
 
 -- P holds of each
 abbrev pub EachOf : {A : Type 0} → (A → Type 0) → List A → Type 0
@@ -52,22 +52,22 @@ induct_type P on_var on_con on_rec on_tup on_arrow = ind-Ty P (AtField P) (λ x 
 
 -- the variables
 pub variables_var : (v : VarId) → variables (ty.Var v) ≡ v ∷ []
-variables_var v = ap variables (sym (rolls-Var v)) ∙ fold-roll-Ty _ _ variables_step variables_field_step _
+variables_var v = ap variables (sym (rolls-Var v)) ∙ fold-roll-Ty _ _ variables_step (λ field. field.ty) _
 
 pub variables_con : (name : NameId) (ts : List Ty) → variables (ty.Con name ts) ≡ concatenated (map variables ts)
-variables_con name ts = ap variables (sym (rolls-Con name ts)) ∙ fold-roll-Ty _ _ variables_step variables_field_step _
+variables_con name ts = ap variables (sym (rolls-Con name ts)) ∙ fold-roll-Ty _ _ variables_step (λ field. field.ty) _
 
 pub variables_rec : (fields : List Field) → variables (ty.Rec fields) ≡ concatenated (map field_variables fields)
-variables_rec fields = ap variables (sym (rolls-Rec fields)) ∙ fold-roll-Ty _ _ variables_step variables_field_step _
+variables_rec fields = ap variables (sym (rolls-Rec fields)) ∙ fold-roll-Ty _ _ variables_step (λ field. field.ty) _
 
 pub variables_tup : (ts : List Ty) → variables (ty.Tup ts) ≡ concatenated (map variables ts)
-variables_tup ts = ap variables (sym (rolls-Tup ts)) ∙ fold-roll-Ty _ _ variables_step variables_field_step _
+variables_tup ts = ap variables (sym (rolls-Tup ts)) ∙ fold-roll-Ty _ _ variables_step (λ field. field.ty) _
 
 pub variables_arrow : (a b : Ty) → variables (ty.Arrow a b) ≡ variables a ++ variables b
-variables_arrow a b = ap variables (sym (rolls-Arrow a b)) ∙ fold-roll-Ty _ _ variables_step variables_field_step _
+variables_arrow a b = ap variables (sym (rolls-Arrow a b)) ∙ fold-roll-Ty _ _ variables_step (λ field. field.ty) _
 
 pub variables_field : (field : Field) → field_variables field ≡ variables field.ty
-variables_field field = fold-roll-Field _ _ variables_step variables_field_step (record { label = field.label; ty = field.ty })
+variables_field field = fold-roll-Field _ _ variables_step (λ field. field.ty) (record { label = field.label; ty = field.ty })
 
 -- the renamed type
 module _ (r : Renaming) where

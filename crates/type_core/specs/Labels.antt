@@ -1,19 +1,10 @@
 -- The labels of records, and their order.
-use Rattle.std.specs.Prelude.{ℕ, ◌+◌, ◌-◌, ◌*◌, ◌&&◌, Bool, true, false, not, if◌then◌else◌, List, [], ◌∷◌, map, nat_eq, nat_le}
+use Rattle.std.specs.Prelude.{ℕ, ◌+◌, ◌-◌, ◌*◌, ◌&&◌, Bool, true, false, not, if◌then◌else◌, List, [], ◌∷◌, nat_eq}
 use Rattle.std.specs.declared.cmp.Ordering.{Ordering}
 use Rattle.std.specs.declared.cmp.Ordering.TheVariants.{Less, Greater}
 use Rattle.std.specs.Ordering.{nat_cmp, is_lt}
 use Rattle.std.specs.Cmp.Lexicographic.{slice_cmp}
-use Rattle.type_core.specs.Lists.{all_true}
-
--- whether the byte is a digit
-abbrev pub is_digit : ℕ → Bool
-is_digit b = nat_le 48 b && nat_le b 57
-
--- whether the text is a numeral: digits, and the first of them isn't 0
-abbrev pub is_numeral : List ℕ → Bool
-is_numeral [] = false
-is_numeral (b ∷ text) = not (nat_eq b 48) && all_true (map is_digit (b ∷ text))
+use Rattle.sig_base.specs.Identifiers.{is_numeral}
 
 -- the number that more digits make of a number: each makes it ten times as great and is added
 abbrev pub value_after : ℕ → List ℕ → ℕ

@@ -14,6 +14,9 @@ pub mod Printing
 pub mod InitialNames
 pub mod AdmitsEquality
 pub mod Labels
+pub mod Records
+pub mod Arrows
+pub mod Kept
 pub mod Paths
 pub mod Weight
 pub mod ValidLibrary

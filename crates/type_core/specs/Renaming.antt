@@ -1,5 +1,5 @@
 -- Types with their variables renamed, and equality of schemes up to the names of their variables.
-use Rattle.std.specs.Prelude.{◌≡◌, IsTrue, List}
+use Rattle.std.specs.Prelude.{◌≡◌, IsTrue, List, Some, map, slice_get}
 use Rattle.type_core.specs.declared.ty.VarId.{VarId}
 use Rattle.type_core.specs.declared.ty.Scheme.{Scheme}
 use Rattle.type_core.specs.declared.ty.Ty.{Ty}
@@ -30,6 +30,14 @@ renamed r = fold-Ty Ty Field (rename_step r) rename_field_step
 -- the field with its type renamed
 abbrev pub field_renamed : Renaming → Field → Field
 field_renamed r = fold-Field Ty Field (rename_step r) rename_field_step
+
+-- the variables that r gives for these
+abbrev pub listed : Renaming → List VarId → List Ty
+listed r = map (λ v. ty.Var (r v))
+
+-- at the number of each variable of t stands the variable that r gives for it
+abbrev pub Lists : Renaming → Ty → List Ty → Type 0
+Lists r t by = (v : VarId) → IsTrue (occurs v (variables t)) → slice_get by v.n ≡ Some (ty.Var (r v))
 
 -- no two of the variables go to one
 abbrev pub IsOneToOne : Renaming → List VarId → Type 0

@@ -1,26 +1,23 @@
 -- What is a valid library.
-use Rattle.std.specs.Prelude.{◌≡◌, ◌≢◌, ℕ, ◌≤◌, ◌⊎◌, ◌++◌, List, IsTrue, drop, length, map, not}
-use Rattle.std.specs.List.{All, AllPairs, Contains, filter}
-use Rattle.sig_base.specs.Identifiers.{IsAlphanumeric}
+use Rattle.std.specs.Prelude.{◌≡◌, ℕ, ◌≤◌, ◌⊎◌, ◌++◌, List, drop, length, map, not}
+use Rattle.std.specs.List.{All, Contains, filter}
+pub use Rattle.sig_base.specs.Lists.{AreDistinct}
+use Rattle.sig_base.specs.Identifiers.{IsAlphanumeric, IsIdentifier, IsNumeral}
 use Rattle.type_core.specs.declared.library.Library.{Library}
 use Rattle.type_core.specs.declared.names.Equality.TheVariants.{Never, IfArgs}
 use Rattle.type_core.specs.declared.names.TypeName.{TypeName}
 use Rattle.type_core.specs.declared.ty.Ty.{Ty}
 use Rattle.type_core.specs.Height.{height_of}
 use Rattle.type_core.specs.InitialNames.{initial_names}
-use Rattle.type_core.specs.Labels.{is_numeral}
 use Rattle.type_core.specs.Lists.{sum_of}
 use Rattle.type_core.specs.NormalSize.{normal_size_of}
-use Rattle.type_core.specs.Paths.{BeginsWith, IsIdentifier, IsMemberPath, IsShort, IsTypePath}
+use Rattle.sig_base.specs.LongIdentifiers.{IsShort}
+use Rattle.type_core.specs.Paths.{BeginsWith, IsMemberPath, IsTypePath}
 use Rattle.type_core.specs.Schemes.{IsScheme}
 use Rattle.type_core.specs.Size.{size_of}
 use Rattle.type_core.specs.TypeFunctions.{IsTypeFn}
 use Rattle.type_core.specs.Types.{IsTypeOver}
 use Rattle.type_core.specs.Weight.{labels_of, library_weight}
-
--- no two of them are equal
-abbrev pub AreDistinct : {A : Type 0} → List A → Type 0
-AreDistinct xs = AllPairs (λ a b. a ≢ b) xs
 
 -- the names after the initial ones
 abbrev pub own_names : Library → List TypeName
@@ -48,7 +45,7 @@ BeginsWithUnit library path = (identifier : List ℕ) × IsUnit library identifi
 
 -- a label: an identifier without dots or a numeral, of at most 255 bytes
 abbrev pub IsLabel : List ℕ → Type 0
-IsLabel text = IsShort text × (IsIdentifier text ⊎ IsTrue (is_numeral text))
+IsLabel text = IsShort text × (IsIdentifier text ⊎ IsNumeral text)
 
 -- a type over the names of the library, whose labels are all such ones
 pub record IsTypeOf (library : Library) (t : Ty) : Type 0 where

@@ -3,7 +3,7 @@ use Rattle.std.specs.Prelude.{ℕ, ◌+◌, ◌==◌, ◌&&◌, ◌||◌, Bool, 
 use Rattle.type_core.specs.declared.ty.VarId.{VarId}
 use Rattle.type_core.specs.declared.ty.Ty.{Ty}
 use Rattle.type_core.specs.declared.ty.Field.{Field}
-use Rattle.type_core.specs.declared.ty.Ty.TheOpen.{Ty-F, Field-F, Var, Con, Rec, Tup, Arrow}
+use Rattle.type_core.specs.declared.ty.Ty.TheOpen.{Ty-F, Var, Con, Rec, Tup, Arrow}
 use Rattle.type_core.specs.declared.ty.Ty.TheFolds.{fold-Ty, fold-Field}
 use Rattle.type_core.specs.Lists.{concatenated}
 
@@ -15,16 +15,13 @@ variables_step (Rec fields) = concatenated fields
 variables_step (Tup components) = concatenated components
 variables_step (Arrow from to) = from ++ to
 
-abbrev pub variables_field_step : Field-F (List VarId) (List VarId) → List VarId
-variables_field_step field = field.ty
-
 -- the variables of the type as they occur, from left to right
 abbrev pub variables : Ty → List VarId
-variables = fold-Ty (List VarId) (List VarId) variables_step variables_field_step
+variables = fold-Ty (List VarId) (List VarId) variables_step (λ field. field.ty)
 
 -- the variables of the field's type as they occur
 abbrev pub field_variables : Field → List VarId
-field_variables = fold-Field (List VarId) (List VarId) variables_step variables_field_step
+field_variables = fold-Field (List VarId) (List VarId) variables_step (λ field. field.ty)
 
 -- whether both have the mark or neither has
 abbrev pub same_mark : Bool → Bool → Bool

@@ -25,9 +25,13 @@ labels_field_step field = field.label ∷ field.ty
 unfoldable pub labels_of : Ty → List (List ℕ)
 labels_of = fold-Ty (List (List ℕ)) (List (List ℕ)) labels_step labels_field_step
 
+-- how many bytes the labels have together
+abbrev pub label_bytes : Ty → ℕ
+label_bytes t = sum_of (map length (labels_of t))
+
 -- the weight of a type: its nodes, and the bytes of its labels
 abbrev pub type_weight : Ty → ℕ
-type_weight t = size_of t + sum_of (map length (labels_of t))
+type_weight t = size_of t + label_bytes t
 
 -- a type constructor weighs 1, the bytes of its path, and the body of its type function
 abbrev pub tycon_weight : Tycon → ℕ

@@ -1,10 +1,11 @@
 // The labels of records, and their order.
 ghost use Rattle.std.specs.Prelude.{◌≡◌, ◌<◌, IsTrue, map, min};
 ghost use Rattle.std.specs.Ordering.{is_lt, nat_cmp};
-ghost use Rattle.type_core.specs.Labels.{are_in_order, are_record_labels, count_on_from, is_digit, is_numeral, is_numeral_of, label_order, value_of};
-ghost use Rattle.type_core.specs.Lists.{all_true};
+ghost use Rattle.sig_base.specs.Identifiers.{is_numeral};
+ghost use Rattle.type_core.specs.Labels.{are_in_order, are_record_labels, are_tuple_labels, count_on_from, is_numeral_of, label_order, value_of};
 
 use crate::ty::Field;
+use sig_base::is_numeral;
 use std::cmp::Ordering;
 
 /// The order of a record's labels: numerals come first, by value; then the others, by bytes. A label is an
@@ -40,32 +41,6 @@ fn compare_numerals(a: &[u8], b: &[u8]) -> Ordering
     }
 }
 
-fn is_digit(b: u8) -> bool
-    ensures value { result ≡ is_digit b }
-{
-    b'0' <= b && b <= b'9'
-}
-
-fn are_digits(text: &[u8]) -> bool
-    ensures value { result ≡ all_true (map is_digit text.now) }
-{
-    for b in text {
-        if !is_digit(*b) {
-            return false;
-        }
-    }
-    true
-}
-
-fn is_numeral(text: &[u8]) -> bool
-    ensures value { result ≡ is_numeral text.now }
-{
-    match text {
-        [] => false,
-        [first, ..] => *first != b'0' && are_digits(text),
-    }
-}
-
 /// The number of which these are the decimal digits, or `u64::MAX` where that is less.
 fn value(text: &[u8]) -> u64
     ensures value { result ≡ min (value_of text.now) u64.MAX }
@@ -90,17 +65,18 @@ fn are_in_order(fields: &[Field]) -> bool
     ensures value { result ≡ are_in_order (map (λ field. field.label) fields.now) }
 {
     for i in 1..fields.len() {
-        if !comes_before(&fields[i - 1], &fields[i]) {
+        if !comes_before(fields[i - 1].label.as_slice(), fields[i].label.as_slice()) {
             return false;
         }
     }
     true
 }
 
-fn comes_before(field: &Field, next: &Field) -> bool
-    ensures value { result ≡ is_lt (label_order field.now.label next.now.label) }
+/// Whether a label comes before another one.
+pub(crate) fn comes_before(label: &[u8], next: &[u8]) -> bool
+    ensures value { result ≡ is_lt (label_order label.now next.now) }
 {
-    match compare_labels(field.label.as_slice(), next.label.as_slice()) {
+    match compare_labels(label, next) {
         Ordering::Less => true,
         _ => false,
     }
@@ -118,6 +94,17 @@ fn count_on(fields: &[Field]) -> bool
     true
 }
 
+/// Whether the labels of these fields are those of a tuple.
+pub(crate) fn are_tuple_labels(fields: &[Field]) -> bool
+    ensures value { result ≡ are_tuple_labels (map (λ field. field.label) fields.now) }
+{
+    match fields {
+        [] => false,
+        [_] => false,
+        _ => count_on(fields),
+    }
+}
+
 /// Whether a record may have the labels of these fields.
 pub(crate) fn are_record_labels(fields: &[Field]) -> bool
     ensures value { result ≡ are_record_labels (map (λ field. field.label) fields.now) }
@@ -125,6 +112,6 @@ pub(crate) fn are_record_labels(fields: &[Field]) -> bool
     match fields {
         [] => false,
         [_] => true,
-        _ => are_in_order(fields) && !count_on(fields),
+        _ => are_in_order(fields) && !are_tuple_labels(fields),
     }
 }

@@ -1,252 +1,225 @@
-// Types by hand, and what is to come of them.
+// Types in postfix notation, and what is to come of them.
 ghost use Rattle.std.specs.Prelude.{IfOk};
 ghost use Rattle.type_core.specs.Schemes.{IsScheme};
 
+use crate::substitution::each_variable_is;
 use crate::{
-    Equality, Field, NameId, Scheme, Ty, TypeFn, TypeName, VarId, admits_equality, apply_fn, close,
-    compare_labels, copy, equal_schemes, has_variables_below, height, initial_names,
-    is_proper_type, is_type, is_type_fn, normal_size, print_scheme, print_type, same, size,
-    substitute,
+    Equality, Field, NameId, Scheme, Ty, TypeFn, TypeName, VarId, admits_equality, apply_fn,
+    arrows, close, compare_labels, copy, equal_schemes, height, initial_names, is_type, is_type_fn,
+    is_type_over, normal_size, print_scheme, print_type, same, size, substitute, type_weight,
 };
-use sig_base::{Boxed, List, NoMemory, Text};
+use sig_base::{List, NoMemory, Row, Stack, Text};
 use std::alloc::Global;
 use std::cmp::Ordering;
 use std::test::Fail;
 
-fn variable(n: u32) -> Ty {
-    Ty::Var(VarId { n, eq: false })
+fn variable(n: u32, eq: bool) -> Ty {
+    Ty::Var(VarId { n, eq })
 }
 
-fn marked(n: u32) -> Ty {
-    Ty::Var(VarId { n, eq: true })
-}
-
-fn arrow(alloc: Global, from: Ty, to: Ty) -> Result<Ty, NoMemory> {
-    let from = Boxed::new(alloc, from)?;
-    let to = Boxed::new(alloc, to)?;
-    Ok(Ty::Arrow(from, to))
-}
-
-fn two(alloc: Global, first: Ty, second: Ty) -> Result<List<Ty>, NoMemory> {
-    let mut both = List::new(alloc);
-    both.push(first)?;
-    both.push(second)?;
-    Ok(both)
-}
-
-fn pair(alloc: Global, first: Ty, second: Ty) -> Result<Ty, NoMemory> {
-    Ok(Ty::Tup(two(alloc, first, second)?))
-}
-
-fn unit(alloc: Global) -> Ty {
-    Ty::Tup(List::new(alloc))
-}
-
-fn named(alloc: Global, name: u32) -> Ty {
-    Ty::Con(NameId(name), List::new(alloc))
-}
-
-fn applied(alloc: Global, name: u32, argument: Ty) -> Result<Ty, NoMemory> {
-    let mut arguments = List::new(alloc);
-    arguments.push(argument)?;
+/// The name at the types last read.
+fn named(alloc: Global, types: &mut Stack<Ty>, name: u32, count: usize) -> Result<Ty, NoMemory> {
+    let arguments = Row::new(alloc, types.take_last(count)?)?;
     Ok(Ty::Con(NameId(name), arguments))
 }
 
-fn applied_to_two(alloc: Global, name: u32, first: Ty, second: Ty) -> Result<Ty, NoMemory> {
-    Ok(Ty::Con(NameId(name), two(alloc, first, second)?))
+/// The tuple of the types last read.
+fn tuple(alloc: Global, types: &mut Stack<Ty>, count: usize) -> Result<Ty, NoMemory> {
+    let components = Row::new(alloc, types.take_last(count)?)?;
+    Ok(Ty::Tup(components))
 }
 
-fn record(alloc: Global, x: Ty, y: Ty) -> Result<Ty, NoMemory> {
+fn push_field(alloc: Global, fields: &mut List<Field>, label: u8, ty: Ty) -> Result<(), NoMemory> {
+    let label = Text::from_slice(alloc, &[label])?;
+    fields.push(Field { label, ty })
+}
+
+/// The type last read; unit where there is none.
+fn top(types: &mut Stack<Ty>) -> Ty {
+    match types.pop() {
+        Some(t) => t,
+        None => Ty::Tup(Row::empty()),
+    }
+}
+
+/// The record of the two types last read, at these labels of one letter.
+fn record(alloc: Global, types: &mut Stack<Ty>, labels: [u8; 2]) -> Result<Ty, NoMemory> {
     let mut fields = List::new(alloc);
-    let label = Text::from_slice(alloc, b"x")?;
-    fields.push(Field { label, ty: x })?;
-    let label = Text::from_slice(alloc, b"y")?;
-    fields.push(Field { label, ty: y })?;
-    Ok(Ty::Rec(fields))
+    let second = top(types);
+    push_field(alloc, &mut fields, labels[0], top(types))?;
+    push_field(alloc, &mut fields, labels[1], second)?;
+    Ok(Ty::Rec(Row::new(alloc, fields)?))
+}
+
+/// The type that a byte makes of those read before it.
+fn step(alloc: Global, types: &mut Stack<Ty>, byte: u8) -> Result<Ty, NoMemory> {
+    match byte {
+        b'a'..=b'z' => Ok(variable((byte - b'a') as u32, false)),
+        b'A'..=b'Z' => Ok(variable((byte - b'A') as u32, true)),
+        b'0'..=b'9' => named(alloc, types, (byte - b'0') as u32, 0),
+        b'[' => named(alloc, types, 9, 1),
+        b'!' => named(alloc, types, 10, 1),
+        b'?' => named(alloc, types, 11, 1),
+        b'%' => named(alloc, types, 14, 2),
+        b'>' => arrows(alloc, types.take_last(2)?),
+        b'*' => tuple(alloc, types, 2),
+        b'_' => tuple(alloc, types, 1),
+        b'{' => record(alloc, types, [b'x', b'y']),
+        b'}' => record(alloc, types, [b'y', b'x']),
+        b'|' => record(alloc, types, [b'1', b'2']),
+        _ => tuple(alloc, types, 0),
+    }
+}
+
+/// The types in postfix notation. Letters are variables, capitals those that admit equality, digits names; `[`, `!`,
+/// `?` and `%` stand for `list`, `ref`, `option` and a name of two arguments, `>` for an arrow, `.` for unit, `*` for a
+/// pair and `_` for a tuple of one, and `{`, `}` and `|` for records of two fields.
+fn read_all(alloc: Global, text: &str) -> Result<List<Ty>, NoMemory> {
+    let mut types = Stack::new(alloc);
+    for byte in text.as_bytes() {
+        let t = step(alloc, &mut types, *byte)?;
+        types.push(t)?;
+    }
+    types.take_all()
+}
+
+/// The last of the types.
+fn read(alloc: Global, text: &str) -> Result<Ty, NoMemory> {
+    let mut types = read_all(alloc, text)?;
+    types.pop().ok_or(NoMemory)
 }
 
 /// The initial names, and number 14 of two arguments.
 fn names(alloc: Global) -> Result<List<TypeName>, NoMemory> {
     let mut names = initial_names(alloc)?;
     let path = Text::from_slice(alloc, b"Map.map")?;
+    let (arity, equality) = (2, Equality::IfArgs);
     names.push(TypeName {
         path,
-        arity: 2,
-        equality: Equality::IfArgs,
+        arity,
+        equality,
         external: true,
     })?;
     Ok(names)
 }
 
-/// Whether this is the text of the type.
-fn shows(alloc: Global, t: Ty, text: &[u8]) -> Result<bool, NoMemory> {
-    let names = names(alloc)?;
-    let shown = print_type(alloc, &names, &t)?;
-    Ok(shown.as_slice() == text)
-}
-
-/// The type closed, where it is a small one.
-fn closed(alloc: Global, t: Ty) -> Result<Scheme, NoMemory>
-    ensures scheme { IfOk result IsScheme }
-{
-    if size(&t) > 1000 {
-        return Err(NoMemory);
-    }
-    close(alloc, &t)
-}
-
-/// Whether the closed type has so many variables, and this text.
-fn closes_to(alloc: Global, t: Ty, vars: u32, text: &[u8]) -> Result<bool, NoMemory> {
-    let names = names(alloc)?;
-    let scheme = closed(alloc, t)?;
-    let shown = print_scheme(alloc, &names, &scheme)?;
-    Ok(scheme.vars == vars && shown.as_slice() == text)
-}
-
-/// Whether the two types are closed to equal schemes.
-fn are_equal(alloc: Global, a: Ty, b: Ty) -> Result<bool, NoMemory> {
-    let a = closed(alloc, a)?;
-    let b = closed(alloc, b)?;
-    Ok(equal_schemes(&a, &b))
+fn variable_shows(alloc: Global, v: (u32, bool), text: &str) -> Result<bool, NoMemory> {
+    let shown = print_type(alloc, &List::new(alloc), &variable(v.0, v.1))?;
+    Ok(shown.as_slice() == text.as_bytes())
 }
 
 #[test]
 fn variables_are_shown(rt: HostRuntime) -> Result<(), Fail> {
-    let alloc = rt.alloc();
-    assert!(rt; shows(alloc, variable(0), b"'a")?);
-    assert!(rt; shows(alloc, variable(25), b"'z")?);
-    assert!(rt; shows(alloc, variable(26), b"'a1")?);
-    assert!(rt; shows(alloc, variable(4_294_967_295), b"'v165191049")?);
-    assert!(rt; shows(alloc, marked(0), b"''a")?);
-    assert!(rt; shows(alloc, marked(53), b"''b2")?);
+    for (n, eq, text) in [
+        (0, false, "'a"),
+        (25, false, "'z"),
+        (26, false, "'a1"),
+        (4_294_967_295, false, "'v165191049"),
+        (0, true, "''a"),
+        (53, true, "''b2"),
+    ] {
+        assert!(rt; variable_shows(rt.alloc(), (n, eq), text)?, "of {text}");
+    }
     Ok(())
 }
 
-#[test]
-fn arrows_are_shown(rt: HostRuntime) -> Result<(), Fail> {
-    let alloc = rt.alloc();
-    let inner = arrow(alloc, variable(0), variable(1))?;
-    assert!(rt;
-        shows(
-            alloc,
-            arrow(alloc, inner, variable(2))?,
-            b"('a -> 'b) -> 'c"
-        )?
-    );
-    let inner = arrow(alloc, variable(1), variable(2))?;
-    assert!(rt; shows(alloc, arrow(alloc, variable(0), inner)?, b"'a -> 'b -> 'c")?);
-    let inner = pair(alloc, variable(0), variable(1))?;
-    assert!(rt; shows(alloc, arrow(alloc, inner, variable(2))?, b"'a * 'b -> 'c")?);
-    let inner = pair(alloc, variable(1), variable(2))?;
-    assert!(rt; shows(alloc, arrow(alloc, variable(0), inner)?, b"'a -> 'b * 'c")?);
-    Ok(())
+fn shows(alloc: Global, t: &str, text: &str) -> Result<bool, NoMemory> {
+    let shown = print_type(alloc, &names(alloc)?, &read(alloc, t)?)?;
+    Ok(shown.as_slice() == text.as_bytes())
 }
 
 #[test]
-fn tuples_are_shown(rt: HostRuntime) -> Result<(), Fail> {
-    let alloc = rt.alloc();
-    assert!(rt; shows(alloc, unit(alloc), b"unit")?);
-    assert!(rt;
-        shows(
-            alloc,
-            arrow(alloc, unit(alloc), unit(alloc))?,
-            b"unit -> unit"
-        )?
-    );
-    assert!(rt; shows(alloc, pair(alloc, unit(alloc), variable(0))?, b"unit * 'a")?);
-    let inner = pair(alloc, variable(0), variable(1))?;
-    assert!(rt; shows(alloc, pair(alloc, inner, variable(2))?, b"('a * 'b) * 'c")?);
-    let inner = arrow(alloc, variable(1), variable(2))?;
-    assert!(rt; shows(alloc, pair(alloc, variable(0), inner)?, b"'a * ('b -> 'c)")?);
+fn types_are_shown(rt: HostRuntime) -> Result<(), Fail> {
+    for (t, text) in [
+        ("ab>c>", "('a -> 'b) -> 'c"),
+        ("abc>>", "'a -> 'b -> 'c"),
+        ("ab*c>", "'a * 'b -> 'c"),
+        ("abc*>", "'a -> 'b * 'c"),
+        (".", "unit"),
+        ("..>", "unit -> unit"),
+        (".a*", "unit * 'a"),
+        ("ab*c*", "('a * 'b) * 'c"),
+        ("abc>*", "'a * ('b -> 'c)"),
+        ("0", "int"),
+        ("a?[", "'a option list"),
+        (".[", "unit list"),
+        ("ab>!", "('a -> 'b) ref"),
+        ("ab*?", "('a * 'b) option"),
+        ("4ab>%", "(string, 'a -> 'b) Map.map"),
+        ("ab>.{2>", "{x : 'a -> 'b, y : unit} -> real"),
+    ] {
+        assert!(rt; shows(rt.alloc(), t, text)?, "of {t}");
+    }
     Ok(())
 }
 
-#[test]
-fn applications_are_shown(rt: HostRuntime) -> Result<(), Fail> {
-    let alloc = rt.alloc();
-    assert!(rt; shows(alloc, named(alloc, 0), b"int")?);
-    let inner = applied(alloc, 11, variable(0))?;
-    assert!(rt; shows(alloc, applied(alloc, 9, inner)?, b"'a option list")?);
-    assert!(rt; shows(alloc, applied(alloc, 13, unit(alloc))?, b"unit array")?);
-    let inner = arrow(alloc, variable(0), variable(1))?;
-    assert!(rt; shows(alloc, applied(alloc, 10, inner)?, b"('a -> 'b) ref")?);
-    let inner = pair(alloc, variable(0), variable(1))?;
-    assert!(rt; shows(alloc, applied(alloc, 12, inner)?, b"('a * 'b) vector")?);
-    let inner = arrow(alloc, variable(0), variable(1))?;
-    let both = applied_to_two(alloc, 14, named(alloc, 4), inner)?;
-    assert!(rt; shows(alloc, both, b"(string, 'a -> 'b) Map.map")?);
-    Ok(())
+/// The type closed, where it is a small one.
+fn closed(alloc: Global, t: &Ty) -> Result<Scheme, NoMemory>
+    ensures scheme { IfOk result IsScheme }
+{
+    if size(t) > 1000 {
+        return Err(NoMemory);
+    }
+    close(alloc, t)
 }
 
-#[test]
-fn records_are_shown(rt: HostRuntime) -> Result<(), Fail> {
-    let alloc = rt.alloc();
-    let inner = arrow(alloc, variable(0), variable(1))?;
-    let both = record(alloc, inner, unit(alloc))?;
-    assert!(rt;
-        shows(
-            alloc,
-            arrow(alloc, both, named(alloc, 2))?,
-            b"{x : 'a -> 'b, y : unit} -> real"
-        )?
-    );
-    Ok(())
+fn scheme(alloc: Global, t: &str) -> Result<Scheme, NoMemory>
+    ensures scheme { IfOk result IsScheme }
+{
+    closed(alloc, &read(alloc, t)?)
+}
+
+fn shows_closed(alloc: Global, t: &str, text: &str) -> Result<bool, NoMemory> {
+    let shown = print_scheme(alloc, &List::new(alloc), &scheme(alloc, t)?)?;
+    Ok(shown.as_slice() == text.as_bytes())
 }
 
 #[test]
 fn variables_are_numbered(rt: HostRuntime) -> Result<(), Fail> {
-    let alloc = rt.alloc();
-    let inner = arrow(alloc, variable(7), variable(3))?;
-    assert!(rt;
-        closes_to(
-            alloc,
-            arrow(alloc, inner, variable(7))?,
-            2,
-            b"('a -> 'b) -> 'a"
-        )?
-    );
-    let inner = record(alloc, variable(9), marked(9))?;
-    assert!(rt;
-        closes_to(
-            alloc,
-            pair(alloc, inner, variable(9))?,
-            2,
-            b"{x : 'a, y : ''b} * 'a"
-        )?
-    );
-    assert!(rt; closes_to(alloc, named(alloc, 3), 0, b"char")?);
+    for (t, text) in [
+        ("hd>h>", "('a -> 'b) -> 'a"),
+        ("jJ{j*", "{x : 'a, y : ''b} * 'a"),
+    ] {
+        assert!(rt; shows_closed(rt.alloc(), t, text)?, "of {t}");
+    }
     Ok(())
+}
+
+/// Whether the two types are closed to equal schemes.
+fn are_equal(alloc: Global, a: &str, b: &str) -> Result<bool, NoMemory> {
+    Ok(equal_schemes(&scheme(alloc, a)?, &scheme(alloc, b)?))
 }
 
 #[test]
 fn schemes_are_equal_up_to_names(rt: HostRuntime) -> Result<(), Fail> {
-    let alloc = rt.alloc();
-    let map = arrow(alloc, variable(4), variable(2))?;
-    let other = arrow(alloc, variable(0), variable(8))?;
-    assert!(rt; are_equal(alloc, map, other)?);
-    let twice = arrow(alloc, variable(0), variable(0))?;
-    let other = arrow(alloc, variable(0), variable(1))?;
-    assert!(rt; !are_equal(alloc, twice, other)?);
-    assert!(rt; !are_equal(alloc, variable(0), marked(0))?);
-    assert!(rt;
-        !are_equal(
-            alloc,
-            applied(alloc, 9, variable(0))?,
-            applied(alloc, 10, variable(0))?
-        )?
-    );
+    for (a, b, equal) in [
+        ("ec>", "ai>", true),
+        ("aa>", "ab>", false),
+        ("a", "A", false),
+        ("a[", "a!", false),
+    ] {
+        assert!(rt; are_equal(rt.alloc(), a, b)? == equal, "of {a} and {b}");
+    }
     Ok(())
+}
+
+/// The size, the height, the weight and the size of the normal form.
+fn measures(alloc: Global, text: &str) -> Result<[u64; 4], NoMemory> {
+    let t = read(alloc, text)?;
+    Ok([size(&t), height(&t), type_weight(&t), normal_size(&t)])
 }
 
 #[test]
 fn types_are_measured(rt: HostRuntime) -> Result<(), Fail> {
-    let alloc = rt.alloc();
-    assert_eq!(rt; (size(&unit(alloc)), height(&unit(alloc))), (1, 1));
-    let inner = applied(alloc, 9, variable(0))?;
-    let t = arrow(alloc, inner, named(alloc, 0))?;
-    assert_eq!(rt; (size(&t), height(&t)), (4, 3));
-    let t = record(alloc, variable(0), variable(1))?;
-    assert_eq!(rt; (size(&t), height(&t)), (3, 2));
+    for (t, wanted) in [
+        (".", [1, 1, 1, 0]),
+        ("a[0>", [4, 3, 4, 3]),
+        ("ab{", [3, 2, 5, 3]),
+        ("a.>", [3, 2, 3, 0]),
+        ("ab*cd*>", [7, 3, 7, 6]),
+    ] {
+        assert!(rt; measures(rt.alloc(), t)? == wanted, "of {t}");
+    }
     Ok(())
 }
 
@@ -254,112 +227,129 @@ fn types_are_measured(rt: HostRuntime) -> Result<(), Fail> {
 fn ints(alloc: Global, count: u32) -> Result<Ty, NoMemory> {
     let mut components = List::new(alloc);
     for _ in 0..count {
-        components.push(named(alloc, 0))?;
+        components.push(Ty::Con(NameId(0), Row::empty()))?;
     }
-    Ok(Ty::Tup(components))
+    Ok(Ty::Tup(Row::new(alloc, components)?))
 }
 
-/// The type with these in place of its variables, where there are enough.
-fn replaced(alloc: Global, t: Ty, by: List<Ty>) -> Result<Ty, NoMemory> {
-    if !has_variables_below(&t, by.len()) {
-        return Err(NoMemory);
-    }
-    substitute(alloc, &t, &by)
+/// The size of the normal form of an arrow between tuples of so many.
+fn normal_size_between(alloc: Global, from: u32, to: u32) -> Result<u64, NoMemory> {
+    let mut sides = List::new(alloc);
+    sides.push(ints(alloc, from)?)?;
+    sides.push(ints(alloc, to)?)?;
+    Ok(normal_size(&arrows(alloc, sides)?))
 }
 
-/// The type function at two types, where it is one of two parameters.
-fn applied_at(alloc: Global, f: TypeFn, first: Ty, second: Ty) -> Result<Ty, NoMemory> {
-    let args = two(alloc, first, second)?;
-    if !is_type_fn(&f) || f.arity as usize != args.len() {
-        return Err(NoMemory);
-    }
-    apply_fn(alloc, &f, &args)
-}
-
-fn labelled(alloc: Global, first: &[u8], second: &[u8]) -> Result<Ty, NoMemory> {
-    let mut fields = List::new(alloc);
-    let label = Text::from_slice(alloc, first)?;
-    fields.push(Field {
-        label,
-        ty: named(alloc, 0),
-    })?;
-    let label = Text::from_slice(alloc, second)?;
-    fields.push(Field {
-        label,
-        ty: named(alloc, 1),
-    })?;
-    Ok(Ty::Rec(fields))
-}
-
+// Each of the results has all arguments.
 #[test]
 fn normal_forms_are_measured(rt: HostRuntime) -> Result<(), Fail> {
-    let alloc = rt.alloc();
-    let t = arrow(alloc, ints(alloc, 99)?, ints(alloc, 80)?)?;
-    assert_eq!(rt; normal_size(&t), 8000);
-    let t = arrow(alloc, ints(alloc, 126)?, ints(alloc, 63)?)?;
-    assert_eq!(rt; normal_size(&t), 8001);
-    assert_eq!(rt; normal_size(&arrow(alloc, variable(0), unit(alloc))?), 0);
+    for (from, to, wanted) in [(99, 80, 8000), (126, 63, 8001)] {
+        assert!(rt;
+            normal_size_between(rt.alloc(), from, to)? == wanted,
+            "of {wanted}"
+        );
+    }
     Ok(())
+}
+
+/// The type function at these types, where it is one of so many parameters.
+fn applied(alloc: Global, f: &TypeFn, by: &List<Ty>) -> Result<Ty, NoMemory> {
+    if !is_type_fn(f) || f.arity as usize != by.len() {
+        return Err(NoMemory);
+    }
+    apply_fn(alloc, f, by)
+}
+
+/// A copy of the type with these in place of its variables, where there are enough.
+fn replaced(alloc: Global, t: &Ty, by: &List<Ty>) -> Result<Ty, NoMemory> {
+    if !each_variable_is(t, by.len(), true) {
+        return Err(NoMemory);
+    }
+    copy(alloc, &substitute(alloc, t, by)?)
+}
+
+/// The type that the function of this body and two parameters gives.
+fn applied_to(alloc: Global, body: &str, by: &List<Ty>) -> Result<Ty, NoMemory> {
+    let f = TypeFn {
+        arity: 2,
+        body: read(alloc, body)?,
+    };
+    applied(alloc, &f, by)
+}
+
+fn is(alloc: Global, t: &Ty, wanted: &str) -> Result<bool, NoMemory> {
+    Ok(same(t, &read(alloc, wanted)?))
+}
+
+/// Whether this type comes when the types of `by` are put in place.
+fn comes(alloc: Global, body: &str, by: &List<Ty>, wanted: &str) -> Result<bool, NoMemory> {
+    let t = replaced(alloc, &read(alloc, body)?, by)?;
+    is(alloc, &t, wanted)
+}
+
+fn comes_applied(alloc: Global, body: &str, by: &List<Ty>, wanted: &str) -> Result<bool, NoMemory> {
+    let t = applied_to(alloc, body, by)?;
+    is(alloc, &t, wanted)
+}
+
+fn gives(alloc: Global, body: &str, by: &str, wanted: &str) -> Result<bool, NoMemory> {
+    let by = read_all(alloc, by)?;
+    Ok(comes(alloc, body, &by, wanted)? && comes_applied(alloc, body, &by, wanted)?)
 }
 
 #[test]
 fn types_are_put_in_place(rt: HostRuntime) -> Result<(), Fail> {
-    let alloc = rt.alloc();
-    let t = arrow(alloc, variable(1), marked(0))?;
-    let by = two(alloc, named(alloc, 2), unit(alloc))?;
-    assert!(rt; shows(alloc, replaced(alloc, t, by)?, b"unit -> real")?);
-    let body = arrow(alloc, variable(1), variable(0))?;
-    let t = applied_at(
-        alloc,
-        TypeFn { arity: 2, body },
-        named(alloc, 0),
-        named(alloc, 1),
-    )?;
-    assert!(rt; shows(alloc, t, b"word -> int")?);
-    let t = labelled(alloc, b"a", b"b")?;
-    assert!(rt; same(&copy(alloc, &t)?, &t));
-    assert!(rt;
-        !is_type_fn(&TypeFn {
-            arity: 1,
-            body: marked(0)
-        })
-    );
+    for (body, by, wanted) in [("ba>", "01", "10>"), ("a[bb*{", ".c?", ".[c?c?*{")] {
+        assert!(rt; gives(rt.alloc(), body, by, wanted)?, "of {body}");
+    }
     Ok(())
 }
 
+/// Whether the tree is a type, one over the names, and admits equality.
+fn told(alloc: Global, names: &List<TypeName>, text: &str) -> Result<[bool; 3], NoMemory> {
+    let t = read(alloc, text)?;
+    Ok([
+        is_type(&t),
+        is_type_over(names, &t),
+        admits_equality(names, &t),
+    ])
+}
+
+fn is_told(alloc: Global, text: &str, wanted: [bool; 3]) -> Result<bool, NoMemory> {
+    Ok(told(alloc, &names(alloc)?, text)? == wanted)
+}
+
 #[test]
-fn equality_is_told(rt: HostRuntime) -> Result<(), Fail> {
-    let alloc = rt.alloc();
-    let names = names(alloc)?;
-    assert!(rt; admits_equality(&names, &named(alloc, 0)));
-    assert!(rt; !admits_equality(&names, &named(alloc, 2)));
-    assert!(rt; !admits_equality(&names, &applied(alloc, 9, variable(0))?));
-    assert!(rt; admits_equality(&names, &applied(alloc, 9, marked(0))?));
-    let t = arrow(alloc, variable(0), variable(0))?;
-    assert!(rt; admits_equality(&names, &applied(alloc, 10, t)?));
+fn types_are_told(rt: HostRuntime) -> Result<(), Fail> {
+    for (t, wanted) in [
+        ("0", [true, true, true]),
+        ("2", [true, true, false]),
+        ("a[", [true, true, false]),
+        ("A[", [true, true, true]),
+        ("aa>!", [true, true, true]),
+        ("01{", [true, true, true]),
+        ("01|", [false, false, true]),
+        ("01}", [false, false, true]),
+        ("0_", [false, false, true]),
+        ("9", [true, false, true]),
+    ] {
+        assert!(rt; is_told(rt.alloc(), t, wanted)?, "of {t}");
+    }
     Ok(())
 }
 
 #[test]
 fn labels_are_ordered(rt: HostRuntime) -> Result<(), Fail> {
-    assert_eq!(rt; compare_labels(b"9", b"10"), Ordering::Less);
-    assert_eq!(rt; compare_labels(b"10", b"a"), Ordering::Less);
-    assert_eq!(rt; compare_labels(b"b", b"a"), Ordering::Greater);
-    assert_eq!(rt; compare_labels(b"12", b"12"), Ordering::Equal);
-    Ok(())
-}
-
-#[test]
-fn types_are_told(rt: HostRuntime) -> Result<(), Fail> {
-    let alloc = rt.alloc();
-    let names = names(alloc)?;
-    assert!(rt; is_type(&names, &labelled(alloc, b"2", b"10")?));
-    assert!(rt; !is_type(&names, &labelled(alloc, b"1", b"2")?));
-    assert!(rt; !is_type(&names, &labelled(alloc, b"b", b"a")?));
-    assert!(rt; !is_type(&names, &ints(alloc, 1)?));
-    assert!(rt; !is_type(&names, &applied(alloc, 0, unit(alloc))?));
-    assert!(rt; !is_type(&names, &named(alloc, 15)));
-    assert!(rt; is_proper_type(&named(alloc, 15)));
-    assert!(rt; !is_proper_type(&ints(alloc, 1)?));
+    for (a, b, order) in [
+        ("9", "10", Ordering::Less),
+        ("10", "a", Ordering::Less),
+        ("b", "a", Ordering::Greater),
+        ("12", "12", Ordering::Equal),
+    ] {
+        assert!(rt;
+            compare_labels(a.as_bytes(), b.as_bytes()) == order,
+            "of {a} and {b}"
+        );
+    }
     Ok(())
 }

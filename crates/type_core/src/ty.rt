@@ -1,12 +1,12 @@
 // Types and schemes.
-use sig_base::{Boxed, List, Text};
+use sig_base::{Row, Shared, Text};
 
 /// The number of a type constructor's name in a list of names.
-#[derive(Clone, Copy, Debug, PartialEq, Eq)]
+#[derive(Clone, Copy, Debug, PartialEq, Eq, Hash)]
 pub struct NameId(pub u32);
 
 /// A type variable: its number, and whether it has the equality mark, as `''a` has.
-#[derive(Clone, Copy, Debug, PartialEq, Eq)]
+#[derive(Clone, Copy, Debug, PartialEq, Eq, Hash)]
 pub struct VarId {
     pub n: u32,
     pub eq: bool,
@@ -22,13 +22,13 @@ pub enum Ty {
     /// A type variable.
     Var(VarId),
     /// A name applied to its arguments.
-    Con(NameId, List<Ty>),
+    Con(NameId, Row<Ty>),
     /// A labelled record.
-    Rec(List<Field>),
+    Rec(Row<Field>),
     /// A tuple.
-    Tup(List<Ty>),
+    Tup(Row<Ty>),
     /// A function type.
-    Arrow(Boxed<Ty>, Boxed<Ty>),
+    Arrow(Shared<Ty>, Shared<Ty>),
 }
 
 /// One field of a record type.

@@ -23,7 +23,7 @@ pub fn apply_fn(alloc: Global, f: &TypeFn, args: &List<Ty>) -> Result<Ty, NoMemo
     replace(alloc, &f.body, args.as_slice())
 }
 
-/// Whether no variable occurs in the body but the parameters.
+/// Whether no variable occurs in the body but the parameters, which have no mark.
 pub fn is_type_fn(f: &TypeFn) -> bool
     ensures value { IsTrue result ↔ IsTypeFn f.now }
 {

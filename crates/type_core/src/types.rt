@@ -11,46 +11,47 @@ use sig_base::List;
 /// Whether the tree is a type over these names: each tuple and record in it is one that a type may have,
 /// and each name is one of these, with as many arguments as its arity (the Definition, section 4.2).
 #[tactic(auto, using(crate::proofs::TypeTests::type_over, std::proofs::lemmas::Grind::common_steps))]
-pub fn is_type(names: &List<TypeName>, t: &Ty) -> bool
+pub fn is_type_over(names: &List<TypeName>, t: &Ty) -> bool
     ensures value { IsTrue result ↔ IsTypeOver names.now t.now }
 {
-    is_proper_type(t) && is_over(t, names.as_slice())
+    is_type(t) && is_over(t, names.as_slice())
 }
 
 /// Whether the tree is a type, whatever its names are: no tuple in it has one component, and each record is one
 /// that a type may have.
-#[cycle(proper)]
+#[cycle(types)]
 #[tactic(auto, using(crate::proofs::TypeTests::type_tests, std::proofs::lemmas::Grind::common_steps))]
-pub fn is_proper_type(t: &Ty) -> bool
+pub fn is_type(t: &Ty) -> bool
     ensures value { result ≡ is_type t.now }
 {
     match t {
         Ty::Var(_) => true,
-        Ty::Con(_, arguments) => all_proper(arguments.as_slice()),
-        Ty::Rec(fields) => are_record_labels(fields.as_slice()) && fields_proper(fields.as_slice()),
-        Ty::Tup(components) => components.len() != 1 && all_proper(components.as_slice()),
-        Ty::Arrow(from, to) => is_proper_type(from.get()) && is_proper_type(to.get()),
+        Ty::Con(_, arguments) => are_types(arguments.as_slice()),
+        Ty::Rec(fields) => are_record_labels(fields.as_slice())
+            && field_types_are(fields.as_slice()),
+        Ty::Tup(components) => components.len() != 1 && are_types(components.as_slice()),
+        Ty::Arrow(from, to) => is_type(from.get()) && is_type(to.get()),
     }
 }
 
-#[cycle(proper)]
-fn all_proper(parts: &[Ty]) -> bool
+#[cycle(types)]
+fn are_types(parts: &[Ty]) -> bool
     ensures value { result ≡ all_true (map is_type parts.now) }
 {
     for part in parts {
-        if !is_proper_type(part) {
+        if !is_type(part) {
             return false;
         }
     }
     true
 }
 
-#[cycle(proper)]
-fn fields_proper(fields: &[Field]) -> bool
+#[cycle(types)]
+fn field_types_are(fields: &[Field]) -> bool
     ensures value { result ≡ all_true (map (λ field. is_type field.ty) fields.now) }
 {
     for field in fields {
-        if !is_proper_type(&field.ty) {
+        if !is_type(&field.ty) {
             return false;
         }
     }

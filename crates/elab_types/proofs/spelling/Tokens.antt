@@ -20,7 +20,7 @@ read_texts bytes texts from to n (t ∷ ts) same h =
     let here : n ≡ n + 0 = omega arith in
     let first : text_at texts n ≡ text_of bytes t = ap (text_at texts) here ∙ same 0 in
     let later : (k : ℕ) → text_at texts (n + 1 + k) ≡ text_at (texts_of bytes ts) k = λ k. let e : n + 1 + k ≡ n + suc k = omega arith in ap (text_at texts) e ∙ same (suc k) in (
-      subst (IsTextOf (sort_of bytes t)) (sym first) (kind_text bytes t.span.start t.span.end h.1.0.within t.kind h.1.0.stands h.2),
+      subst (IsTextOf (sort_of bytes t)) (sym first) (kind_text bytes t.kind t.span.start t.span.end h.1.0.stands h.2),
       read_texts bytes texts t.span.end to (n + 1) ts later h.3,
     )
 

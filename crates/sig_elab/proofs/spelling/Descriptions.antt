@@ -13,7 +13,7 @@ use Rattle.sig_parser.specs.declared.tree.SigExp.{SigExp}
 use Rattle.sig_parser.specs.declared.tree.TypeDesc.{TypeDesc}
 use Rattle.sig_parser.specs.declared.tree.ValDesc.{ValDesc}
 use Rattle.sig_parser.specs.declared.tree.WherePart.{WherePart}
-use Rattle.sig_parser.specs.Grammar.{Separated, one, more, Named, named, Typed, typed, TyVar, tyvar, TyVarSeq, no_variables, variable, variables, Value, value, Constructor, constructor, Abbreviation, without_type, with_type, Con, constant, carrying, DatDesc, datdesc, Part, part, Wheres, no_parts, parts, Parts, by_where, by_and, name_of, Names, two_names, more_names, Equated, equated}
+use Rattle.sig_parser.specs.Grammar.{Separated, one, more, Named, named, Typed, typed, TyVar, tyvar, TyVarSeq, no_variables, variable, variables, ValueDescription, value, TypeDescription, constructor, TypeAbbreviation, without_type, with_type, ConstructorDescription, constant, carrying, DatatypeDescription, datdesc, TypeRealization, part, Realizations, no_parts, parts, SomeRealizations, by_where, by_and, name_of, SignatureNames, two_names, more_names, Equated, equated}
 use Rattle.elab_types.specs.Sources.{text_at}
 use Rattle.elab_rules.specs.Spelling as spelling
 use Rattle.elab_rules.specs.Spelling.{IsSpelledType, IsSpelledValue, IsSpelledTycon, IsSpelledConstructor, IsSpelledDatatype, IsSpelledPart, IsSpelledSignature, AreSpelledSignatures}
@@ -47,35 +47,35 @@ module _ (texts : List (List ℕ)) where
   typed_spelled : {ts r : List Numbered} {t : TypeAt} → Typed ts r t → HaveTexts texts ts → IsSpelledType texts t.ty × HaveTexts texts r
   typed_spelled (typed d) h = type_spelled texts d h
 
-  pub value_spelled : (ts r : List Numbered) (x : ValDesc) → Value ts r x → HaveTexts texts ts → IsSpelledValue texts x × HaveTexts texts r
+  pub value_spelled : (ts r : List Numbered) (x : ValDesc) → ValueDescription ts r x → HaveTexts texts ts → IsSpelledValue texts x × HaveTexts texts r
   value_spelled ts r x (value {i = i} {so = so} vid d) h = let q = typed_spelled d h.1.1 in ((value_text (text_at texts i) so vid (h.0).sort, q.0), q.1)
 
-  pub tycon_spelled : (ts r : List Numbered) (x : TypeDesc) → Constructor ts r x → HaveTexts texts ts → IsSpelledTycon texts x × HaveTexts texts r
+  pub tycon_spelled : (ts r : List Numbered) (x : TypeDesc) → TypeDescription ts r x → HaveTexts texts ts → IsSpelledTycon texts x × HaveTexts texts r
   tycon_spelled ts r x (constructor {i = i} {so = so} d tycon) h = let q = variables_read d h in ((type_text (text_at texts i) so tycon (q.0).sort, tt), q.1)
 
-  pub abbreviation_spelled : (ts r : List Numbered) (x : TypeDesc) → Abbreviation ts r x → HaveTexts texts ts → IsSpelledTycon texts x × HaveTexts texts r
+  pub abbreviation_spelled : (ts r : List Numbered) (x : TypeDesc) → TypeAbbreviation ts r x → HaveTexts texts ts → IsSpelledTycon texts x × HaveTexts texts r
   abbreviation_spelled ts r x (without_type {i = i} {so = so} d tycon) h = let q = variables_read d h in ((type_text (text_at texts i) so tycon (q.0).sort, tt), q.1)
   abbreviation_spelled ts r x (with_type {i = i} {so = so} d tycon t) h = let q = variables_read d h in let p = typed_spelled t q.1.1 in ((type_text (text_at texts i) so tycon (q.0).sort, p.0), p.1)
 
-  pub constructor_spelled : (ts r : List Numbered) (x : ConDesc) → Con ts r x → HaveTexts texts ts → IsSpelledConstructor texts x × HaveTexts texts r
+  pub constructor_spelled : (ts r : List Numbered) (x : ConDesc) → ConstructorDescription ts r x → HaveTexts texts ts → IsSpelledConstructor texts x × HaveTexts texts r
   constructor_spelled ts r x (constant {i = i} {so = so} vid) h = ((constructor_text (text_at texts i) so vid (h.0).sort, tt), h.1)
   constructor_spelled ts r x (carrying {i = i} {so = so} vid t) h = let p = typed_spelled t h.1.1 in ((constructor_text (text_at texts i) so vid (h.0).sort, p.0), p.1)
 
-  pub datatype_spelled : (ts r : List Numbered) (x : DataDesc) → DatDesc ts r x → HaveTexts texts ts → IsSpelledDatatype texts x × HaveTexts texts r
+  pub datatype_spelled : (ts r : List Numbered) (x : DataDesc) → DatatypeDescription ts r x → HaveTexts texts ts → IsSpelledDatatype texts x × HaveTexts texts r
   datatype_spelled ts r x (datdesc {i = i} {so = so} d tycon cs) h =
       let q = variables_read d h in
       let p = separated_spelled (IsSpelledConstructor texts) constructor_spelled cs q.1.1 in
       ((type_text (text_at texts i) so tycon (q.0).sort, p.0), p.1)
 
-  part_spelled : {at : ℕ} {ts r : List Numbered} {x : WherePart} → Part at ts r x → HaveTexts texts ts → IsSpelledPart texts x × HaveTexts texts r
+  part_spelled : {at : ℕ} {ts r : List Numbered} {x : WherePart} → TypeRealization at ts r x → HaveTexts texts ts → IsSpelledPart texts x × HaveTexts texts r
   part_spelled (part d tycon t) h = typed_spelled t (variables_read d h.1).1.1
 
   mutual
-    pub wheres_spelled : {ts r : List Numbered} {ps : List WherePart} → Wheres ts r ps → HaveTexts texts ts → All (IsSpelledPart texts) ps × HaveTexts texts r
+    pub wheres_spelled : {ts r : List Numbered} {ps : List WherePart} → Realizations ts r ps → HaveTexts texts ts → All (IsSpelledPart texts) ps × HaveTexts texts r
     wheres_spelled no_parts h = (All-nil (IsSpelledPart texts), h)
     wheres_spelled (parts d) h = parts_spelled d h
 
-    parts_spelled : {ts r : List Numbered} {ps : List WherePart} → Parts ts r ps → HaveTexts texts ts → All (IsSpelledPart texts) ps × HaveTexts texts r
+    parts_spelled : {ts r : List Numbered} {ps : List WherePart} → SomeRealizations ts r ps → HaveTexts texts ts → All (IsSpelledPart texts) ps × HaveTexts texts r
     parts_spelled (by_where d x) h = let q = wheres_spelled d h in let p = part_spelled x q.1.1 in (All-push (IsSpelledPart texts) _ _ q.0 p.0, p.1)
     parts_spelled (by_and d x) h = let q = parts_spelled d h in let p = part_spelled x q.1.1 in (All-push (IsSpelledPart texts) _ _ q.0 p.0, p.1)
 
@@ -86,6 +86,6 @@ module _ (texts : List (List ℕ)) where
   name_spelled : (i : ℕ) → IsSpelledSignature texts (name_of i)
   name_spelled i = spelling.sigexp spelling.name (All-nil (IsSpelledPart texts))
 
-  pub names_spelled : {ts r : List Numbered} {es : List SigExp} → Names ts r es → HaveTexts texts ts → AreSpelledSignatures texts es × HaveTexts texts r
+  pub names_spelled : {ts r : List Numbered} {es : List SigExp} → SignatureNames ts r es → HaveTexts texts ts → AreSpelledSignatures texts es × HaveTexts texts r
   names_spelled (two_names {i = i} {j = j} first second) h = (spelling.more_signatures (name_spelled i) (spelling.more_signatures (name_spelled j) spelling.no_signatures), h.1.1)
   names_spelled (more_names {i = i} d strid) h = let q = names_spelled d h in (signatures_push q.0 (name_spelled i), q.1.1)

@@ -14,7 +14,7 @@ use Rattle.sig_parser.specs.declared.tree.SourceFile.{SourceFile}
 use Rattle.sig_parser.specs.declared.tree.Spec.{Spec}
 use Rattle.sig_parser.specs.declared.tree.TopDec.{TopDec}
 use Rattle.sig_parser.specs.Files.{File}
-use Rattle.sig_parser.specs.Grammar.{Sig, sigexp, Base, body, name, Specs, no_specs, more_specs, semicolon, Described, val, types, eqtype, datatype, replica, exception, structure, include_one, include_names, sharing_type, sharing, Bindings, one_binding, more_bindings, Binding, binding, Declared, signature, top_structure, TopDecs, no_decs, more_decs, top_semicolon}
+use Rattle.sig_parser.specs.Grammar.{SignatureExpression, sigexp, SignatureBase, body, name, Specifications, no_specs, more_specs, semicolon, Specification, val, types, eqtype, datatype, replica, exception, structure, include_one, include_names, sharing_type, sharing, Bindings, one_binding, more_bindings, Binding, binding, TopDeclaration, signature, top_structure, TopDeclarations, no_decs, more_decs, top_semicolon}
 use Rattle.elab_types.specs.Sources.{text_at, texts_of}
 use Rattle.elab_rules.specs.Spelling as spelling
 use Rattle.elab_rules.specs.Spelling.{NamesUnit, IsSpelledValue, IsSpelledTycon, IsSpelledConstructor, IsSpelledDatatype, IsSpelledSpec, AreSpelledSpecs, IsSpelledBase, IsSpelledSignature, AreSpelledBindings, IsSpelledDeclaration, IsSpelledFile}
@@ -32,19 +32,19 @@ module _ (texts : List (List ℕ)) where
   bindings_push b (spelling.more_bindings other g gs) id h = spelling.more_bindings other g (bindings_push b gs id h)
 
   mutual
-    signature_spelled : {ts r : List Numbered} {e : SigExp} → Sig ts r e → HaveTexts texts ts → IsSpelledSignature texts e × HaveTexts texts r
+    signature_spelled : {ts r : List Numbered} {e : SigExp} → SignatureExpression ts r e → HaveTexts texts ts → IsSpelledSignature texts e × HaveTexts texts r
     signature_spelled (sigexp d w) h = let q = base_spelled d h in let p = wheres_spelled texts w q.1 in (spelling.sigexp q.0 p.0, p.1)
 
-    base_spelled : {ts r : List Numbered} {b : SigBase} → Base ts r b → HaveTexts texts ts → IsSpelledBase texts b × HaveTexts texts r
+    base_spelled : {ts r : List Numbered} {b : SigBase} → SignatureBase ts r b → HaveTexts texts ts → IsSpelledBase texts b × HaveTexts texts r
     base_spelled (body d) h = let q = specs_spelled d h.1 in (spelling.body q.0, q.1.1)
     base_spelled (name named) h = (spelling.name, h.1)
 
-    specs_spelled : {ts r : List Numbered} {xs : List Spec} → Specs ts r xs → HaveTexts texts ts → AreSpelledSpecs texts xs × HaveTexts texts r
+    specs_spelled : {ts r : List Numbered} {xs : List Spec} → Specifications ts r xs → HaveTexts texts ts → AreSpelledSpecs texts xs × HaveTexts texts r
     specs_spelled no_specs h = (spelling.no_specs, h)
     specs_spelled (more_specs d x) h = let q = specs_spelled d h in let p = spec_spelled x q.1 in (specs_push q.0 p.0, p.1)
     specs_spelled (semicolon d) h = let q = specs_spelled d h in (q.0, q.1.1)
 
-    spec_spelled : {ts r : List Numbered} {x : Spec} → Described ts r x → HaveTexts texts ts → IsSpelledSpec texts x × HaveTexts texts r
+    spec_spelled : {ts r : List Numbered} {x : Spec} → Specification ts r x → HaveTexts texts ts → IsSpelledSpec texts x × HaveTexts texts r
     spec_spelled (val d) h = let q = separated_spelled texts (IsSpelledValue texts) (value_spelled texts) d h.1 in (spelling.values q.0, q.1)
     spec_spelled (types d) h = let q = separated_spelled texts (IsSpelledTycon texts) (abbreviation_spelled texts) d h.1 in (spelling.types q.0, q.1)
     spec_spelled (eqtype d) h = let q = separated_spelled texts (IsSpelledTycon texts) (tycon_spelled texts) d h.1 in (spelling.eqtypes q.0, q.1)
@@ -64,11 +64,11 @@ module _ (texts : List (List ℕ)) where
     binding_spelled : {between : Sort → Bool} {ts r : List Numbered} {bs : List Bind} {b : Bind} → AreSpelledBindings texts bs → Binding between ts r b → HaveTexts texts ts → AreSpelledBindings texts (bs ++ b ∷ []) × HaveTexts texts r
     binding_spelled before (binding {i = i} {so = so} named between d) h = let q = signature_spelled d h.1.1 in (bindings_push _ before (unit_text (text_at texts i) so named (h.0).sort) q.0, q.1)
 
-  declaration_spelled : {ts r : List Numbered} {d : TopDec} → Declared ts r d → HaveTexts texts ts → IsSpelledDeclaration texts d × HaveTexts texts r
+  declaration_spelled : {ts r : List Numbered} {d : TopDec} → TopDeclaration ts r d → HaveTexts texts ts → IsSpelledDeclaration texts d × HaveTexts texts r
   declaration_spelled (signature d) h = bindings_spelled d h.1
   declaration_spelled (top_structure d) h = bindings_spelled d h.1
 
-  declarations_spelled : {ts r : List Numbered} {ds : List TopDec} → TopDecs ts r ds → HaveTexts texts ts → All (IsSpelledDeclaration texts) ds × HaveTexts texts r
+  declarations_spelled : {ts r : List Numbered} {ds : List TopDec} → TopDeclarations ts r ds → HaveTexts texts ts → All (IsSpelledDeclaration texts) ds × HaveTexts texts r
   declarations_spelled no_decs h = (All-nil (IsSpelledDeclaration texts), h)
   declarations_spelled (more_decs d x) h = let q = declarations_spelled d h in let p = declaration_spelled x q.1 in (All-push (IsSpelledDeclaration texts) _ _ q.0 p.0, p.1)
   declarations_spelled (top_semicolon d) h = let q = declarations_spelled d h in (q.0, q.1.1)

@@ -7,42 +7,48 @@ use Rattle.std.proofs.lemmas.Bool.{false≢true}
 use Rattle.sml_lexer.specs.declared.token.Token.{Token}
 use Rattle.sml_lexer.specs.declared.token.TokenKind.{TokenKind}
 use Rattle.sml_lexer.specs.declared.token.TokenKind.TheVariants as kind
-use Rattle.sml_lexer.specs.Tokens.{Reads, StandsAt, IsShort as IsShortAt, text_of, tokens}
+use Rattle.sml_lexer.specs.Tokens.{Reads, StandsAt, text_of, tokens}
 use Rattle.ty_parser.specs.Grammar.{Numbered}
 use Rattle.ty_parser.specs.declared.sort.Sort.{Sort}
 use Rattle.ty_parser.specs.declared.sort.Sort.TheVariants as s
 use Rattle.ty_parser.specs.Sorts.{is_long_tycon, sort_of, sort_of_kind, sort_of_long, sorts_of}
-use Rattle.type_core.specs.Paths.{IsLong, IsTypeIdentifier, last}
+use Rattle.sig_base.specs.Identifiers.{IsIdentifier}
+use Rattle.sig_base.specs.LongIdentifiers.{HasShortParts, IsPath}
+use Rattle.sig_base.proofs.LongIdentifiers.{identifier_alone}
+use Rattle.type_core.specs.Paths.{IsLongTypeIdentifier, IsTypeIdentifier}
 use Rattle.elab_types.specs.Sources.{text_at, texts_of}
 use Rattle.elab_types.proofs.spelling.Sorts.{IsTextOf, kind_text, type_text}
-use Rattle.sig_elab.proofs.spelling.LongNames.{IsLongText, long_text, star_sort}
+use Rattle.sig_elab.proofs.spelling.LongNames.{long_kind, star_sort}
+use Rattle.sig_elab.proofs.valid.LongPaths.{type_no_dot}
 
 -- the text of a long identifier that can name a type constructor
 abbrev pub IsLongTextOf : Sort → List ℕ → Type 0
-IsLongTextOf s.LongAlphanumeric text = IsLong IsTypeIdentifier text
-IsLongTextOf s.LongSymbolic text = IsLong IsTypeIdentifier text
+IsLongTextOf s.LongAlphanumeric text = IsLongTypeIdentifier text
+IsLongTextOf s.LongSymbolic text = IsLongTypeIdentifier text
 IsLongTextOf _ text = ⊤
 
-long_type : (text : List ℕ) (b c : Bool) → IsLong IsTypeIdentifier text → IsLongTextOf (if b then s.LongAlphanumeric else if c then s.LongStar else s.LongSymbolic) text
+long_type : (text : List ℕ) (b c : Bool) → IsLongTypeIdentifier text → IsLongTextOf (if b then s.LongAlphanumeric else if c then s.LongStar else s.LongSymbolic) text
 long_type text true c long = long
 long_type text false true long = tt
 long_type text false false long = long
 
-long_sort : (text : List ℕ) → IsLongText text → IsLongTextOf (sort_of_long text) text
-long_sort text (inl long) = long_type text _ _ long
-long_sort text (inr star) = subst (λ so. IsLongTextOf so text) (sym (ap sort_of_long star.1 ∙ star_sort star.0)) tt
+long_sort : (text : List ℕ) → IsPath IsIdentifier text → HasShortParts text → IsLongTextOf (sort_of_long text) text
+long_sort text path short = elim (long_kind text path) [
+  | inl long ↦ long_type text _ _ (long, short)
+  | inr star ↦ subst (λ so. IsLongTextOf so text) (sym (ap sort_of_long star.1 ∙ star_sort star.0)) tt
+]
 
 no_long : (text : List ℕ) (b : Bool) → IsLongTextOf (if b then s.Star else s.Symbolic) text
 no_long text true = tt
 no_long text false = tt
 
-kind_long : (bytes : List ℕ) (start end : ℕ) → end ≤ length bytes → (kind : TokenKind) → StandsAt bytes kind start end → IsShortAt bytes kind start end → IsLongTextOf (sort_of_kind kind (between start end bytes)) (between start end bytes)
-kind_long bytes start end within (kind.Reserved word) stands short = tt
-kind_long bytes start end within kind.TyVar stands short = tt
-kind_long bytes start end within kind.Alpha stands short = tt
-kind_long bytes start end within kind.Sym stands short = no_long _ _
-kind_long bytes start end within kind.Long stands short = long_sort _ (long_text bytes start end stands within short)
-kind_long bytes start end within kind.Num stands short = tt
+kind_long : (bytes : List ℕ) (kind : TokenKind) (start end : ℕ) → StandsAt bytes kind start end → HasShortParts (between start end bytes) → IsLongTextOf (sort_of_kind kind (between start end bytes)) (between start end bytes)
+kind_long bytes (kind.Reserved word) start end stands short = tt
+kind_long bytes kind.TyVar start end stands short = tt
+kind_long bytes kind.Alpha start end stands short = tt
+kind_long bytes kind.Sym start end stands short = no_long _ _
+kind_long bytes kind.Long start end stands short = long_sort (between start end bytes) stands.0 short
+kind_long bytes kind.Num start end stands short = tt
 
 -- ---- the tokens
 -- a text is as the sort says
@@ -63,8 +69,8 @@ read_texts bytes texts from to n (t ∷ ts) same h =
     let later : (k : ℕ) → text_at texts (n + 1 + k) ≡ text_at (texts_of bytes ts) k = λ k. let e : n + 1 + k ≡ n + suc k = omega arith in ap (text_at texts) e ∙ same (suc k) in
     let stands = h.1.0 in (
       subst (IsSpelled (sort_of bytes t)) (sym first) (record {
-        sort = kind_text bytes t.span.start t.span.end stands.within t.kind stands.stands h.2;
-        long = kind_long bytes t.span.start t.span.end stands.within t.kind stands.stands h.2;
+        sort = kind_text bytes t.kind t.span.start t.span.end stands.stands h.2;
+        long = kind_long bytes t.kind t.span.start t.span.end stands.stands h.2;
       }),
       read_texts bytes texts t.span.end to (n + 1) ts later h.3,
     )
@@ -73,9 +79,9 @@ pub file_texts : (bytes : List ℕ) (ts : List Token) → tokens bytes ts → Ha
 file_texts bytes ts h = read_texts bytes (texts_of bytes ts) 0 (length bytes) 0 ts (λ k. let e : 0 + k ≡ k = omega arith in ap (text_at (texts_of bytes ts)) e) h
 
 -- ---- names of type constructors
-pub type_name : (text : List ℕ) (so : Sort) → IsTrue (is_long_tycon so) → IsSpelled so text → IsLong IsTypeIdentifier text
+pub type_name : (text : List ℕ) (so : Sort) → IsTrue (is_long_tycon so) → IsSpelled so text → IsLongTypeIdentifier text
 type_name text s.LongAlphanumeric e h = h.long
 type_name text s.LongSymbolic e h = h.long
-type_name text s.Alphanumeric e h = let q = type_text text s.Alphanumeric e h.sort in last text q.1 q.0
-type_name text s.Symbolic e h = let q = type_text text s.Symbolic e h.sort in last text q.1 q.0
+type_name text s.Alphanumeric e h = let q = type_text text s.Alphanumeric e h.sort in identifier_alone IsTypeIdentifier text (type_no_dot text q.0) q.1 q.0
+type_name text s.Symbolic e h = let q = type_text text s.Symbolic e h.sort in identifier_alone IsTypeIdentifier text (type_no_dot text q.0) q.1 q.0
 type_name text _ e h = absurd (false≢true e)

@@ -6,7 +6,8 @@ use Rattle.sig_base.specs.declared.word.Word.TheVariants as w
 use Rattle.sig_parser.specs.Grammar.{is_described_vid}
 use Rattle.ty_parser.specs.declared.sort.Sort.{Sort}
 use Rattle.ty_parser.specs.declared.sort.Sort.TheVariants as s
-use Rattle.type_core.specs.Paths.{IsMemberIdentifier, IsShort}
+use Rattle.sig_base.specs.LongIdentifiers.{IsShort}
+use Rattle.type_core.specs.Paths.{IsMemberIdentifier}
 use Rattle.elab_types.proofs.spelling.Sorts.{IsTextOf}
 
 pub value_text : (text : List ℕ) (so : Sort) → IsTrue (is_described_vid so) → IsTextOf so text → IsMemberIdentifier text × IsShort text

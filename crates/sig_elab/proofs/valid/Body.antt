@@ -29,7 +29,8 @@ use Rattle.elab_phrases.proofs.LaterNames.{known_within}
 use Rattle.sig_elab.proofs.valid.Everywhere.{all_together, all_weaker}
 use Rattle.sig_elab.proofs.valid.InitialEntries.{initial_usable}
 use Rattle.elab_types.proofs.Lists.{no_some}
-use Rattle.sig_elab.proofs.valid.LongPaths.{NoDot, type_no_dot, unit_no_dot, value_no_dot}
+use Rattle.sig_base.proofs.LongIdentifiers.{NoDot, word_no_dot}
+use Rattle.sig_elab.proofs.valid.LongPaths.{type_no_dot, value_no_dot}
 use Rattle.sig_elab.proofs.valid.Named.{named_external, named_none, named_together}
 use Rattle.elab_types.proofs.Outcomes.{ok_is, then_parts}
 use Rattle.sig_elab.proofs.valid.Paths.{HaveNoDots, distinct_paths, paths_together, tycon_paths}
@@ -39,7 +40,7 @@ use Rattle.sig_elab.proofs.valid.Weaker.{AreSound, AreUsable, environment_still,
 
 -- ---- sound environments
 pub no_dots : (known : Known) (env : Environment) → AreSound known env → HaveNoDots env
-no_dots known = all_weaker (IsSoundTycon known) (λ type. NoDot type.id) (IsSoundValue known) (λ value. NoDot value.id) IsUnitId NoDot (λ type h. type_no_dot type.id (h.id).spelled) (λ value h. value_no_dot value.id (h.id).spelled) (λ id h. unit_no_dot id h.alphanumeric)
+no_dots known = all_weaker (IsSoundTycon known) (λ type. NoDot type.id) (IsSoundValue known) (λ value. NoDot value.id) IsUnitId NoDot (λ type h. type_no_dot type.id (h.id).spelled) (λ value h. value_no_dot value.id (h.id).spelled) (λ id h. word_no_dot id h.alphanumeric)
 
 pub tycons_distinct : (known : Known) (path : List ℕ) (env : Environment) → IsSoundEnvironment known env → AllDistinct (paths_within path env)
 tycons_distinct known path env h = distinct_paths true false paths_within tycon_paths path env (λ s t. true≢false (sym t)) (no_dots known env h.entries) h.distinct

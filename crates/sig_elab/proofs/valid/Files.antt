@@ -24,7 +24,7 @@ use Rattle.elab_rules.specs.Environments.{Environment}
 use Rattle.elab_rules.specs.Files.{all_bound, all_declared, bindings_declared, bound, declared, elaborated, first_of, identifiers_checked, is_from, is_new_unit, library_limited, normal_sum, top_site, unit_made}
 use Rattle.elab_types.specs.Finding.{none_of}
 use Rattle.elab_rules.specs.Library.{Basis, empty_basis, library}
-use Rattle.elab_rules.specs.LongIdentifiers.{parts}
+use Rattle.sig_base.specs.LongIdentifiers.{parts}
 use Rattle.elab_rules.specs.LookUps.{is_top}
 use Rattle.elab_rules.specs.Outcome.{Outcome}
 use Rattle.elab_types.specs.Outcome.{and_then, checked}

@@ -4,7 +4,8 @@ use Rattle.std.proofs.lemmas.Bool.{and_parts, leb-true}
 use Rattle.std.proofs.lemmas.List.Elements.{All-cons, All-nil}
 use Rattle.std.proofs.lemmas.Slice.Eq.{bytes_eq-Decides}
 use Rattle.std.specs.List.{All, AllByRecursion}
-use Rattle.sig_base.specs.Identifiers.{IsAlphanumericByte, IsLetter, IsSymbolicByte, IsUnreserved, spelling}
+use Rattle.sig_base.specs.Identifiers.{IsAlphanumericByte, IsSymbolicByte, IsUnreserved, is_letter, is_symbolic_byte, spelling}
+use Rattle.sig_base.proofs.WordBytes.{letter_alphanumeric}
 use Rattle.sig_base.specs.declared.word.Word.{Word}
 use Rattle.sig_base.specs.declared.word.Word.TheVariants as word
 use Rattle.type_core.specs.declared.member.Kind.TheVariants.{Con}
@@ -106,26 +107,16 @@ unreserved (text ∷ ts) h = (λ w e. unlike (bytes_eq text (spelling w)) ((byte
 free : AllByRecursion IsUnreserved texts
 free = unreserved texts none_reserved
 
-abbrev is_letter : ℕ → Bool
-is_letter b = if nat_le 97 b && nat_le b 122 then true else (nat_le 65 b && nat_le b 90)
-
-letter_is : (b : ℕ) → is_letter b ≡ true → IsLetter b
-letter_is b h = by_case (nat_le 97 b && nat_le b 122) refl h
-  where
-    by_case : (small : Bool) → (nat_le 97 b && nat_le b 122) ≡ small → (if small then true else (nat_le 65 b && nat_le b 90)) ≡ true → IsLetter b
-    by_case true e f = let p = and_parts (nat_le 97 b) (nat_le b 122) e in inr (leb-true 97 b p.0, leb-true b 122 p.1)
-    by_case false e f = let p = and_parts (nat_le 65 b) (nat_le b 90) f in inl (leb-true 65 b p.0, leb-true b 90 p.1)
-
 letters_are : (text : List ℕ) → all_true (map is_letter text) ≡ true → All IsAlphanumericByte text
 letters_are [] h = All-nil _
-letters_are (b ∷ text) h = let p = and_parts (is_letter b) _ h in All-cons IsAlphanumericByte b text (inl (letter_is b p.0)) (letters_are text p.1)
+letters_are (b ∷ text) h = let p = and_parts (is_letter b) _ h in All-cons IsAlphanumericByte b text (letter_alphanumeric b p.0) (letters_are text p.1)
 
 word_of_letters : (b : ℕ) (text : List ℕ) → all_true (map is_letter (b ∷ text)) ≡ true → IsUnreserved (b ∷ text) → IsMemberIdentifier (b ∷ text)
-word_of_letters b text h k = let p = and_parts (is_letter b) _ h in inl (inl ((letter_is b p.0, letters_are text p.1), k))
+word_of_letters b text h k = let p = and_parts (is_letter b) _ h in inl (inl ((p.0, letters_are text p.1), k))
 
 colon : IsSymbolicByte 58
-unfolding IsSymbolicByte
-colon = (8, omega arith, refl)
+unfolding is_symbolic_byte
+colon = refl
 
 double_colon : IsUnreserved (codes "::") → IsMemberIdentifier (codes "::")
 double_colon k = inl (inr ((colon, All-cons IsSymbolicByte 58 [] colon (All-nil _)), k))

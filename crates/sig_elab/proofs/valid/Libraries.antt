@@ -16,7 +16,9 @@ use Rattle.type_core.specs.declared.ty.Ty.{Ty}
 use Rattle.type_core.specs.InitialNames.{initial_names}
 use Rattle.type_core.specs.Lists.{concatenated}
 use Rattle.type_core.specs.NormalSize.{normal_size_of}
-use Rattle.type_core.specs.Paths.{IsLong, IsMemberIdentifier, IsMemberPath, IsPath, IsShort, IsTypeIdentifier, IsTypePath, last, more}
+use Rattle.sig_base.specs.LongIdentifiers.{HasShortParts, IsLong, IsPath, IsShort, parts}
+use Rattle.sig_base.proofs.LongIdentifiers.{NoDot, identifier_alone, long_onward, path_onward}
+use Rattle.type_core.specs.Paths.{IsMemberIdentifier, IsMemberPath, IsTypeIdentifier, IsTypePath}
 use Rattle.type_core.specs.Schemes.{IsScheme}
 use Rattle.type_core.specs.TypeFunctions.{IsTypeFn}
 use Rattle.type_core.specs.Types.{takes}
@@ -28,13 +30,12 @@ use Rattle.elab_rules.specs.Copies.{with_numbers}
 use Rattle.elab_rules.specs.Environments.{Environment, the_structure, the_type, the_value}
 use Rattle.elab_rules.specs.Files.{first_of}
 use Rattle.elab_rules.specs.Library.{Basis, entry_members, entry_tycons, kept_names, library, number_kept, unit_members, unit_of, unit_renumbered, unit_tycons, units_renumbered}
-use Rattle.elab_rules.specs.LongIdentifiers.{parts}
 use Rattle.elab_rules.specs.Soundness.{IsSoundBasis, IsSoundName, IsSoundTycon, IsSoundType, IsSoundUnit, IsSoundValue, IsUnitId, Known, known_by, made_paths, no_entries, paths_within, structure_entry, type_entry, unit_paths, value_entry}
 use Rattle.elab_rules.specs.States.{State, member_of, tycon_of, within}
 use Rattle.sig_elab.proofs.valid.Body.{no_dots}
 use Rattle.sig_elab.proofs.valid.KnownNames.{names_over}
 use Rattle.elab_types.proofs.Lists.{all_in_lists, pairs_parts, unmapped}
-use Rattle.sig_elab.proofs.valid.LongPaths.{first_part}
+use Rattle.sig_elab.proofs.valid.LongPaths.{first_part, type_no_dot, value_no_dot}
 use Rattle.sig_elab.proofs.valid.Named.{all_kept, kept_together}
 use Rattle.sig_elab.proofs.valid.Numbered.{environment_numbered}
 use Rattle.sig_elab.proofs.valid.Paths.{ArePaths, member_paths, member_paths_within, members_structure, members_type, members_value, members_within, paths_with, tycon_paths, tycons_structure, tycons_type, tycons_value, tycons_within, within_within}
@@ -156,7 +157,7 @@ module _ (basis : Basis) (h : IsSoundBasis basis) where
 
   -- a long identifier at a path makes a path from an identifier on
   abbrev Leads : (List ℕ → Type 0) → List ℕ → List ℕ → Type 0
-  Leads Last path first = (text : List ℕ) → IsLong Last text → (rest : List ℕ) × ((within path text ≡ within first rest) × IsLong Last rest)
+  Leads Last path first = (text : List ℕ) → IsLong Last text × HasShortParts text → (rest : List ℕ) × ((within path text ≡ within first rest) × (IsLong Last rest × HasShortParts rest))
 
   -- a path at which an environment of the library stands
   record IsPlace (path : List ℕ) : Type 0 where
@@ -167,7 +168,7 @@ module _ (basis : Basis) (h : IsSoundBasis basis) where
     values : Leads IsMemberIdentifier path first
 
   leads_deeper : (Last : List ℕ → Type 0) (path first id : List ℕ) → IsUnitId id → Leads Last path first → Leads Last (within path id) first
-  leads_deeper Last path first id k leads text l = let q = leads (within id text) (more id text k.short k.alphanumeric l) in (q.0, (within_within path id text ∙ q.1.0, q.1.1))
+  leads_deeper Last path first id k leads text l = let q = leads (within id text) (long_onward Last id text k.alphanumeric k.short l) in (q.0, (within_within path id text ∙ q.1.0, q.1.1))
 
   deeper : (path id : List ℕ) → IsPlace path → IsUnitId id → IsPlace (within path id)
   deeper path id p k = record {
@@ -178,11 +179,13 @@ module _ (basis : Basis) (h : IsSoundBasis basis) where
     values = leads_deeper IsMemberIdentifier path p.first id k p.values;
   }
 
-  path_is : (Last : List ℕ → Type 0) (path id : List ℕ) (p : IsPlace path) → Leads Last path p.first → IsShort id → Last id → IsPath Last (within path id)
-  path_is Last path id p leads short spelled = let q = leads id (last id short spelled) in record { first = p.first; rest = q.0; joined = q.1.0; short = (p.id).short; alphanumeric = (p.id).alphanumeric; long = q.1.1 }
+  path_is : (Last : List ℕ → Type 0) (path id : List ℕ) (p : IsPlace path) → Leads Last path p.first → NoDot id → IsShort id → Last id → IsPath Last (within path id) × HasShortParts (within path id)
+  path_is Last path id p leads none short spelled =
+      let q = leads id (identifier_alone Last id none short spelled) in
+      subst (λ text. IsPath Last text × HasShortParts text) (sym q.1.0) (path_onward Last p.first q.0 (p.id).alphanumeric (p.id).short q.1.1)
 
-  begins : (Last : List ℕ → Type 0) (path id : List ℕ) (p : IsPlace path) → Leads Last path p.first → IsShort id → Last id → BeginsWithUnit the_library (within path id)
-  begins Last path id p leads short spelled = let q = leads id (last id short spelled) in (p.first, p.known, (q.0, q.1.0))
+  begins : (Last : List ℕ → Type 0) (path id : List ℕ) (p : IsPlace path) → Leads Last path p.first → NoDot id → IsShort id → Last id → BeginsWithUnit the_library (within path id)
+  begins Last path id p leads none short spelled = let q = leads id (identifier_alone Last id none short spelled) in (p.first, p.known, (q.0, q.1.0))
 
   type_of_library : (t : Ty) → IsSoundType known_after t → IsTypeOf the_library t
   type_of_library t k = record { over = record { is_type = k.is_type; over = names_over known_after kept (λ n count e. e) t k.names }; labels = k.labels }
@@ -210,8 +213,8 @@ module _ (basis : Basis) (h : IsSoundBasis basis) where
       let fun = k.fun in
       let formed = fun.formed in
       record {
-        path = path_is IsTypeIdentifier path type.id p p.types id.short id.spelled;
-        begins = begins IsTypeIdentifier path type.id p p.types id.short id.spelled;
+        path = path_is IsTypeIdentifier path type.id p p.types (type_no_dot type.id id.spelled) id.short id.spelled;
+        begins = begins IsTypeIdentifier path type.id p p.types (type_no_dot type.id id.spelled) id.short id.spelled;
         arity = formed.arity;
         function = formed.function;
         type = type_of_library type.fun.body formed.body;
@@ -224,8 +227,8 @@ module _ (basis : Basis) (h : IsSoundBasis basis) where
       let scheme = k.scheme in
       let formed = scheme.formed in
       record {
-        path = path_is IsMemberIdentifier path value.id p p.values id.short id.spelled;
-        begins = begins IsMemberIdentifier path value.id p p.values id.short id.spelled;
+        path = path_is IsMemberIdentifier path value.id p p.values (value_no_dot value.id id.spelled) id.short id.spelled;
+        begins = begins IsMemberIdentifier path value.id p p.values (value_no_dot value.id id.spelled) id.short id.spelled;
         scheme = formed.scheme;
         type = type_of_library value.scheme.body formed.body;
         limits = scheme.limits;

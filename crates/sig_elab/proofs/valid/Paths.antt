@@ -29,7 +29,8 @@ use Rattle.elab_rules.specs.States.{member_of, tycon_of, within}
 use Rattle.elab_rules.proofs.DistinctMore.{distinct_from, distinct_inner, distinct_level}
 use Rattle.elab_rules.proofs.Entries.{out_structure, out_type, out_value, with_structure, with_type, with_value}
 use Rattle.elab_types.proofs.Lists.{no_some, pairs_parts}
-use Rattle.sig_elab.proofs.valid.LongPaths.{NoDot, dot_apart, same_before_dot}
+use Rattle.sig_base.proofs.LongIdentifiers.{NoDot}
+use Rattle.sig_elab.proofs.valid.LongPaths.{dot_apart, same_before_dot}
 
 -- ---- what an entry has at a path
 pub tycons_type : (type : TypeEntry) (path : List ℕ) → entry_tycons (the_type type) path ≡ tycon_of path type ∷ []

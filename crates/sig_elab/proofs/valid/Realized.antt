@@ -29,7 +29,8 @@ use Rattle.elab_rules.specs.declared.refusal.Why.TheVariants.{NotFlexible, Unbou
 use Rattle.elab_rules.specs.Bodies.{Described, Site}
 use Rattle.elab_rules.specs.Environments.{Environment}
 use Rattle.elab_rules.specs.Equality.{admits, is_never}
-use Rattle.elab_rules.specs.LongIdentifiers.{Found, parts, type_along}
+use Rattle.sig_base.specs.LongIdentifiers.{parts}
+use Rattle.elab_rules.specs.LongIdentifiers.{Found, type_along}
 use Rattle.elab_rules.specs.Outcome.{Outcome}
 use Rattle.elab_types.specs.Outcome.{and_then, required}
 use Rattle.elab_rules.specs.Parameters.{parameters_checked, variables_at}

@@ -7,7 +7,8 @@ use Rattle.elab_env.specs.Names.{arity_of}
 use Rattle.elab_rules.specs.declared.refusal.Why.TheVariants.{ArityClash, NotFlexible}
 use Rattle.elab_rules.specs.Bodies.{Described, Site}
 use Rattle.elab_rules.specs.Environments.{Environment}
-use Rattle.elab_rules.specs.LongIdentifiers.{Found, parts, structure_along, type_along}
+use Rattle.sig_base.specs.LongIdentifiers.{parts}
+use Rattle.elab_rules.specs.LongIdentifiers.{Found, structure_along, type_along}
 use Rattle.elab_rules.specs.Outcome.{Outcome}
 use Rattle.elab_types.specs.Outcome.{and_then, checked, required}
 use Rattle.elab_rules.specs.Replacing.{flexible}

@@ -6,7 +6,8 @@ use Rattle.type_core.specs.declared.library.UnitKind.{UnitKind}
 use Rattle.type_core.specs.declared.library.UnitKind.TheVariants.{Sig, Str}
 use Rattle.type_core.specs.declared.names.TypeName.{TypeName}
 use Rattle.type_core.specs.declared.type_fn.TypeFn.{TypeFn}
-use Rattle.type_core.specs.Paths.{IsLong, IsTypeIdentifier}
+use Rattle.sig_base.specs.LongIdentifiers.{parts}
+use Rattle.type_core.specs.Paths.{IsLongTypeIdentifier}
 use Rattle.elab_env.specs.Parameters.{name_function}
 use Rattle.elab_rules.specs.declared.entry.UnitEntry.{UnitEntry}
 use Rattle.elab_rules.specs.Bodies.{Site}
@@ -14,7 +15,7 @@ use Rattle.elab_rules.specs.Environments.{Environment, structure_in, type_in}
 use Rattle.elab_rules.specs.Files.{first_of}
 use Rattle.elab_types.specs.Finding.{first_given}
 use Rattle.elab_rules.specs.InitialEnvironment.{initial_environment}
-use Rattle.elab_rules.specs.LongIdentifiers.{Found, found_in, parts}
+use Rattle.elab_rules.specs.LongIdentifiers.{Found, found_in}
 use Rattle.elab_rules.specs.LookUps as look_ups
 use Rattle.elab_rules.specs.LookUps.{Sought, along_sought, datatype_at, datatype_sought, external_named, function_at, function_sought, is_top, sought, structure_entries, structure_sought, top_structure, unit_in}
 use Rattle.elab_env.specs.Names.{external_number}
@@ -178,7 +179,7 @@ module _
     pub adds : Adds tops s r.1
     pub function : IsSoundFunction (T r.1) r.0
 
-  elsewhere_kept : (text : List ℕ) (count token : ℕ) (site : Site) (own : Environment) (s : State) (r : TypeFn × State) → IsLong IsTypeIdentifier text → ((n : ℕ) → r.0 ≡ name_function n count → count ≤ 1999) → CanStand site own s
+  elsewhere_kept : (text : List ℕ) (count token : ℕ) (site : Site) (own : Environment) (s : State) (r : TypeFn × State) → IsLongTypeIdentifier text → ((n : ℕ) → r.0 ≡ name_function n count → count ≤ 1999) → CanStand site own s
       → IsElsewhere (parts text) site → function_sought look_ups.Elsewhere text count token s ≡ Ok r → IsFunction s r
   elsewhere_kept text count token site own s r long few h k e =
       let a = then_parts (external_named text count token (external_number text count s.names) s) (λ (q : ℕ × State). Ok (name_function q.0 count, q.1)) r e in
@@ -192,7 +193,7 @@ module _
         function = name_sound (T a.0.1) a.0.0 count (subst (λ arity. T a.0.1 a.0.0 arity ≡ true) n.arity (external_known a.0.1 a.0.0 n.name ((b.adds).sound h.sound) n.stands n.external)) few_now;
       })
 
-  pub function_kept : (token count : ℕ) (site : Site) (own : Environment) (s : State) (r : TypeFn × State) → IsLong IsTypeIdentifier (text_at site.texts token) → ((n : ℕ) → r.0 ≡ name_function n count → count ≤ 1999) → CanStand site own s
+  pub function_kept : (token count : ℕ) (site : Site) (own : Environment) (s : State) (r : TypeFn × State) → IsLongTypeIdentifier (text_at site.texts token) → ((n : ℕ) → r.0 ≡ name_function n count → count ≤ 1999) → CanStand site own s
       → function_at token count site own s ≡ Ok r → IsFunction s r
   function_kept token count site own s r long few h e = by_case (sought (parts (text_at site.texts token)) site (own ∷ site.around)) refl e
     where

@@ -14,7 +14,7 @@ use Rattle.type_core.specs.ValidLibrary.{AreDistinct, path_and_arity}
 use Rattle.elab_env.specs.Names.{external, external_number, is_external, is_own}
 use Rattle.elab_env.proofs.NameLists.{keeps_appended}
 use Rattle.elab_rules.specs.Files.{first_of}
-use Rattle.elab_rules.specs.LongIdentifiers.{parts}
+use Rattle.sig_base.specs.LongIdentifiers.{parts}
 use Rattle.elab_rules.specs.LookUps.{external_named}
 use Rattle.elab_rules.specs.Soundness.{AreSoundNames, HasSoundNames, IsSoundName, known_by}
 use Rattle.elab_rules.specs.States.{State, weighed}

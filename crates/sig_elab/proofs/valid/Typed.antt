@@ -33,7 +33,7 @@ use Rattle.elab_rules.specs.Spelling as spelling
 use Rattle.elab_rules.specs.Spelling.{AreSpelledFields, AreSpelledTypes, IsSpelledType, NamesLongType, more_fields, more_types, no_fields, no_types}
 use Rattle.elab_rules.specs.States.{State}
 use Rattle.elab_rules.specs.Types.{Any, Parameters, Place, Variables, all_typed, constructed, constructed_all, constructed_on, field_typed, fields_typed, limited, typed, typed_field_step, typed_step, variable_of}
-use Rattle.elab_types.specs.Arrows.{arrows, arrows_from}
+use Rattle.type_core.specs.Arrows.{arrows, arrows_from}
 use Rattle.elab_types.specs.Records.{in_label_order, is_new_label, record_of}
 use Rattle.elab_types.proofs.Fields.{AreApart, all_sorted, sorted_in_order}
 use Rattle.elab_types.proofs.Lists.{other_texts}

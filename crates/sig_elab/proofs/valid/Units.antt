@@ -11,14 +11,15 @@ use Rattle.elab_rules.specs.Soundness.{IsSoundUnit, known_by}
 use Rattle.elab_rules.specs.States.{State, within}
 use Rattle.sig_elab.proofs.valid.Body.{no_dots}
 use Rattle.elab_types.proofs.Lists.{no_pairs, pairs_parts}
-use Rattle.sig_elab.proofs.valid.LongPaths.{same_before_dot, unit_no_dot}
+use Rattle.sig_base.proofs.LongIdentifiers.{word_no_dot}
+use Rattle.sig_elab.proofs.valid.LongPaths.{same_before_dot}
 use Rattle.sig_elab.proofs.valid.Paths.{ArePaths, StandsIn, distinct_both, distinct_paths, under}
 
 abbrev pub unit_ids : List UnitEntry → List (List ℕ)
 unit_ids units = map (λ (unit : UnitEntry). unit.id) units
 
 same_unit : (u v y z : List ℕ) → IsAlphanumeric u → IsAlphanumeric v → within u y ≡ within v z → u ≡ v
-same_unit u v y z h k e = same_before_dot u v y z (unit_no_dot u h) (unit_no_dot v k) (sym (append_assoc u (codes ".") y) ∙ e ∙ append_assoc v (codes ".") z)
+same_unit u v y z h k e = same_before_dot u v y z (word_no_dot u h) (word_no_dot v k) (sym (append_assoc u (codes ".") y) ∙ e ∙ append_assoc v (codes ".") z)
 
 module _ (types values : Bool) (paths : List ℕ → Environment → List (List ℕ)) (are : ArePaths types values paths) (one : types ≡ true → values ≡ true → ⊥) (s : State) where
   abbrev pub all_paths : List UnitEntry → List (List ℕ)

@@ -61,8 +61,8 @@ type_of-returns-in_ok-fields-in-Fields t c = record {
 
 pub type_of-returns-in_ok-parts-in-Tuple : goal.type_of-returns-in_ok-parts-in-Tuple
 type_of-returns-in_ok-parts-in-Tuple t c = record {
-  outcome = gives_same _ _ _ _ (tuple_is _ _ _ _ _ _ _ c.in-Tuple.is c.as_slice-in-Tuple.ensures.value c.in_ok-parts-in-Tuple.ensures.outcome) (c.limited.ensures.outcome _);
-  settled = limited_settled _ _ _ _ _ (tuple_settled _ _ c.in_ok-parts-in-Tuple.ensures.settled) (c.limited.ensures.outcome (state_of c.args.progress.now));
+  outcome = gives_same _ _ _ _ (tuple_is _ _ _ _ _ _ _ c.in-Tuple.is c.as_slice-in-Tuple.ensures.value c.in_ok-parts-in-Tuple.ensures.outcome) (c.tuple.ensures.outcome _);
+  settled = limited_settled _ _ _ _ _ (tuple_settled _ _ c.in_ok-parts-in-Tuple.ensures.settled) (c.tuple.ensures.outcome (state_of c.args.progress.now));
   sees = any_ok _ c.in_ok-parts-in-Tuple.ensures.sees;
   grew = any_ok _ c.in_ok-parts-in-Tuple.ensures.grew;
 }

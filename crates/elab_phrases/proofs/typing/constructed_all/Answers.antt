@@ -1,13 +1,13 @@
 use Rattle.std.proofs.Common.{refl}
 use Rattle.elab_rules.proofs.Outcomes.{handed_on}
-use Rattle.elab_phrases.proofs.SettledParts.{tuple_settled}
+use Rattle.elab_phrases.proofs.SettledParts.{tuple_settled_as}
 use Rattle.elab_phrases.proofs.Sites.{place_mentions}
 use Rattle.elab_phrases.proofs.Staying.{mentions_twice}
 use Rattle.elab_phrases.proofs.TypesInTurn.{constructed_fail, constructed_more}
 use Rattle.elab_phrases.proofs.typing.constructed_all.Goals as goal
 
 pub returns-in_default-clause-settled : goal.returns-in_default-clause-settled
-returns-in_default-clause-settled c = tuple_settled _ _ c.requires.arguments
+returns-in_default-clause-settled c = tuple_settled_as _ _ _ c.in_ok-arguments.ensures.value c.requires.arguments
 
 pub returns-in_err-t-2-clause-outcome : goal.returns-in_err-t-2-clause-outcome
 returns-in_err-t-2-clause-outcome c =

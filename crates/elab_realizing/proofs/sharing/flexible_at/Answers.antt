@@ -1,5 +1,6 @@
 use Rattle.std.proofs.Common.{sym, ap, ◌∙◌}
-use Rattle.elab_rules.specs.LongIdentifiers.{parts, type_along}
+use Rattle.sig_base.specs.LongIdentifiers.{parts}
+use Rattle.elab_rules.specs.LongIdentifiers.{type_along}
 use Rattle.elab_rules.specs.Views.{found_of, found_seen, number_of}
 use Rattle.elab_realizing.proofs.NamesShared.{flexible_there, none_there, rigid_there}
 use Rattle.elab_realizing.proofs.sharing.flexible_at.Goals as goal

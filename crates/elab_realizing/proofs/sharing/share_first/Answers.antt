@@ -5,7 +5,7 @@ use Rattle.std.proofs.lemmas.Option.{slice_get-get_or}
 use Rattle.type_core.specs.declared.ty.Ty.{Ty}
 use Rattle.elab_env.specs.Realizations.{resolved}
 use Rattle.elab_rules.specs.declared.scope.Scope.{Scope}
-use Rattle.elab_rules.specs.LongIdentifiers.{parts}
+use Rattle.sig_base.specs.LongIdentifiers.{parts}
 use Rattle.elab_rules.specs.Sharing.{first_shared}
 use Rattle.elab_types.specs.Sources.{text_at}
 use Rattle.elab_rules.specs.Standing.{AreOver}

@@ -1,6 +1,7 @@
 use Rattle.std.proofs.Common.{◌≡◌, drop, map, take}
 use Rattle.elab_rules.specs.declared.scope.Scope.{Scope}
-use Rattle.elab_rules.specs.LongIdentifiers.{parts, structure_along}
+use Rattle.sig_base.specs.LongIdentifiers.{parts}
+use Rattle.elab_rules.specs.LongIdentifiers.{structure_along}
 use Rattle.elab_rules.specs.Sharing.{entries_of, structures_found}
 use Rattle.elab_types.specs.Sources.{text_at}
 use Rattle.elab_rules.specs.Views.{site_of}

@@ -3,7 +3,8 @@ use Rattle.std.proofs.lemmas.List.Elements.{All-nil}
 use Rattle.type_core.specs.Types.{IsOver}
 use Rattle.elab_env.specs.declared.realization.Realization.{Realization}
 use Rattle.elab_env.specs.Table.{is_free}
-use Rattle.elab_rules.specs.LongIdentifiers.{parts, type_along}
+use Rattle.sig_base.specs.LongIdentifiers.{parts}
+use Rattle.elab_rules.specs.LongIdentifiers.{type_along}
 use Rattle.elab_rules.specs.Parameters.{parameters_checked}
 use Rattle.elab_rules.specs.Standing.{AreOver}
 use Rattle.elab_rules.specs.Views.{found_of, found_seen, number_of}

@@ -1,5 +1,6 @@
 use Rattle.std.proofs.Common.{◌≡◌, ◌≤◌, length}
-use Rattle.elab_rules.specs.LongIdentifiers.{parts, structure_along}
+use Rattle.sig_base.specs.LongIdentifiers.{parts}
+use Rattle.elab_rules.specs.LongIdentifiers.{structure_along}
 use Rattle.elab_rules.proofs.long_identifiers.structure_along.Given as goal
 
 abbrev pub invariant-parts : goal.invariant-parts

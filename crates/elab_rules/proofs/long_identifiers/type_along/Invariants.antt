@@ -1,6 +1,7 @@
 use Rattle.std.proofs.Common.{◌≡◌, ◌≤◌, List, length}
 use Rattle.type_core.specs.declared.names.TypeName.{TypeName}
-use Rattle.elab_rules.specs.LongIdentifiers.{parts, type_along}
+use Rattle.sig_base.specs.LongIdentifiers.{parts}
+use Rattle.elab_rules.specs.LongIdentifiers.{type_along}
 use Rattle.elab_rules.specs.Standing.{AreOver}
 use Rattle.elab_rules.proofs.long_identifiers.type_along.Given as goal
 

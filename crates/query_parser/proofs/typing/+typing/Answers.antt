@@ -44,7 +44,7 @@ type_of-returns-in_ok-fields-in-Fields t c = record {
 
 pub type_of-returns-in_ok-parts-in-Tuple : goal.type_of-returns-in_ok-parts-in-Tuple
 type_of-returns-in_ok-parts-in-Tuple t c = record {
-  outcome = gives_same _ _ _ (tuple_is _ _ _ _ _ c.in-Tuple.is c.as_slice-in-Tuple.ensures.value c.in_ok-parts-in-Tuple.ensures.outcome) c.limited.ensures.outcome;
+  outcome = gives_same _ _ _ (tuple_is _ _ _ _ _ c.in-Tuple.is c.as_slice-in-Tuple.ensures.value c.in_ok-parts-in-Tuple.ensures.outcome) c.tuple.ensures.outcome;
 }
 
 pub type_of-returns-in_ok-sides-in-Arrows : goal.type_of-returns-in_ok-sides-in-Arrows

@@ -1,8 +1,9 @@
-use Rattle.sig_base.proofs.Places.{none_fell-noted, raised-noted}
+use Rattle.std.proofs.Common.{inr}
+use Rattle.sig_base.proofs.FileCounts.{raised, same_counts}
 use Rattle.sig_base.proofs.mem_files.count_failure.Goals as goal
 
-pub returns-clause-raised : goal.returns-clause-raised
-returns-clause-raised c = raised-noted _ _ _ _ _ _ c.place_of.ensures.place c.push.ensures.pushed
+pub returns-in-Ok-clause-raised : goal.returns-in-Ok-clause-raised
+returns-in-Ok-clause-raised c failed = raised _ _ _ _ _ c.place_of.ensures.place c.in-Ok.ensures.raised
 
-pub returns-clause-later : goal.returns-clause-later
-returns-clause-later c = none_fell-noted _ _ _ _ _ c.push.ensures.pushed c.push.ensures.kept
+pub returns-in-Err-clause-quiet : goal.returns-in-Err-clause-quiet
+returns-in-Err-clause-quiet c = inr (same_counts c.args.files.now c.args.counts.now c.raise.new.self c.in-Err.ensures.kept)

@@ -1,5 +1,5 @@
 use Rattle.std.proofs.Common.{◌-◌, ◌≤◌, length}
-use Rattle.sig_parser.specs.Views.{state_of}
+use Rattle.sig_parser.specs.machine.Views.{state_of}
 use Rattle.sig_parser.proofs.Reading.{FileRead}
 use Rattle.sig_parser.proofs.parse.read_file.Given as goal
 

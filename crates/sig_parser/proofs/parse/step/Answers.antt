@@ -1,4 +1,4 @@
-use Rattle.std.proofs.Common.{sym, ap, refl, ◌∙◌, arith}
+use Rattle.std.proofs.Common.{sym, refl, arith}
 use Rattle.sig_parser.proofs.Reading.{step_none, step_some, step_too_deep, step_low}
 use Rattle.sig_parser.proofs.parse.step.Goals as goal
 

@@ -25,7 +25,7 @@ bytes-preserved-in-Some c = reads_comment c.args.bytes.now 0 c.bytes.out c.bytes
 pub bytes-preserved : goal.bytes-preserved
 bytes-preserved c =
     let token : IsTokenAt c.args.bytes.now c.in-Some-longest_at.kind c.bytes.at c.in-Some-longest_at.end = (c.in-Some-longest_at.ensures, iff_false c.is_opening.ensures c.if-is_opening.false) in
-    let short = c.is_short.ensures.0 c.if-not-is_short.false in
+    let short = c.has_short_parts.ensures.exact.0 c.if-not-has_short_parts.false in
     rw c.in_ok-push-in-Some-longest_at.ensures.pushed (reads_push c.args.bytes.now 0 c.bytes.out _ c.bytes.invariant token short)
 
 pub returns-in-None-clause-only_tokens : goal.returns-in-None-clause-only_tokens
@@ -44,12 +44,12 @@ returns-in-None-longest_at-clause-only_refusal c refusal h =
     let same : BadByte c.bytes.at ≡ refusal = one_refusal c.args.bytes.now (BadByte c.bytes.at) refusal (bad_byte_refused c.args.bytes.now c.bytes.out c.bytes.at c.bytes.invariant c.bytes-test.true (iff_false c.is_separator.ensures c.if-is_separator.false) (iff_false c.is_opening.ensures c.if-is_opening.false) c.in-None-longest_at.ensures) h in
     rw same (inl refl)
 
-pub returns-then-not-is_short-clause-only_tokens : goal.returns-then-not-is_short-clause-only_tokens
-returns-then-not-is_short-clause-only_tokens c ts r = absurd (no_refusal c.args.bytes.now ts (LongName c.bytes.at) r (long_name_refused c.args.bytes.now c.bytes.out c.bytes.at c.in-Some-longest_at.kind c.in-Some-longest_at.end c.bytes.invariant c.in-Some-longest_at.ensures (iff_false c.is_opening.ensures c.if-is_opening.false) (iff_false c.is_short.ensures c.if-not-is_short.true)))
+pub returns-then-not-has_short_parts-clause-only_tokens : goal.returns-then-not-has_short_parts-clause-only_tokens
+returns-then-not-has_short_parts-clause-only_tokens c ts r = absurd (no_refusal c.args.bytes.now ts (LongName c.bytes.at) r (long_name_refused c.args.bytes.now c.bytes.out c.bytes.at c.in-Some-longest_at.kind c.in-Some-longest_at.end c.bytes.invariant c.in-Some-longest_at.ensures (iff_false c.is_opening.ensures c.if-is_opening.false) (iff_false c.has_short_parts.ensures.exact c.if-not-has_short_parts.true)))
 
-pub returns-then-not-is_short-clause-only_refusal : goal.returns-then-not-is_short-clause-only_refusal
-returns-then-not-is_short-clause-only_refusal c refusal h =
-    let same : LongName c.bytes.at ≡ refusal = one_refusal c.args.bytes.now (LongName c.bytes.at) refusal (long_name_refused c.args.bytes.now c.bytes.out c.bytes.at c.in-Some-longest_at.kind c.in-Some-longest_at.end c.bytes.invariant c.in-Some-longest_at.ensures (iff_false c.is_opening.ensures c.if-is_opening.false) (iff_false c.is_short.ensures c.if-not-is_short.true)) h in
+pub returns-then-not-has_short_parts-clause-only_refusal : goal.returns-then-not-has_short_parts-clause-only_refusal
+returns-then-not-has_short_parts-clause-only_refusal c refusal h =
+    let same : LongName c.bytes.at ≡ refusal = one_refusal c.args.bytes.now (LongName c.bytes.at) refusal (long_name_refused c.args.bytes.now c.bytes.out c.bytes.at c.in-Some-longest_at.kind c.in-Some-longest_at.end c.bytes.invariant c.in-Some-longest_at.ensures (iff_false c.is_opening.ensures c.if-is_opening.false) (iff_false c.has_short_parts.ensures.exact c.if-not-has_short_parts.true)) h in
     rw same (inl refl)
 
 pub returns-clause-tokens : goal.returns-clause-tokens

@@ -1,7 +1,7 @@
 use Rattle.std.proofs.Common.{◌+◌, ◌<◌, inl, inr, arith}
 use Rattle.std.proofs.lemmas.Bool.{iff_false}
 use Rattle.sml_lexer.specs.declared.token.TokenKind.TheVariants.{Long}
-use Rattle.sml_lexer.proofs.Maximal.{word_led, symbol_led}
+use Rattle.sml_lexer.proofs.LongPlaces.{long_stands, word_led, symbol_led}
 use Rattle.sml_lexer.proofs.Parts.{onward_first, back_first, long_longest, no_tail, symbol_tail, word_tail, symbol_after, word_after}
 use Rattle.sml_lexer.proofs.longest.long_at.Goals as goal
 
@@ -38,7 +38,7 @@ returns-in-Some-Symbolic c =
     let dot = c.is_at.ensures.0 c.parts-test.true in
     let begins : end + 1 < last = (symbol_led bytes (end + 1) s).begins in
     rw c.in-Some-Symbolic.last-is
-    (long_longest bytes c.args.at c.args.first c.requires Long last (omega (arith, l.order)) s.within (l.onward last (dot, inl (inr s)))
+    (long_longest bytes c.args.at c.args.first c.requires Long last (omega (arith, l.order)) s.within (long_stands bytes c.args.at last s.within (l.onward last (dot, inl (inr s))))
     (λ to past long. let past' : end < to = omega arith in symbol_tail bytes end last to s past (l.back to past' long)))
 
 pub parts-preserved : goal.parts-preserved
@@ -54,7 +54,7 @@ parts-preserved c =
     (record {
       order = omega (arith, l.order);
       within = a.within;
-      stands = l.onward next (dot, inl (inl a));
+      stands = long_stands bytes c.args.at next a.within (l.onward next (dot, inl (inl a)));
       onward = λ to tail. l.onward to (dot, inr (onward_first bytes (end + 1) next a to tail));
       back = λ to past long. let past' : end < to = omega arith in word_tail bytes end next to a past (l.back to past' long);
     })

@@ -1,5 +1,6 @@
 use Rattle.std.proofs.Common.{◌-◌, ℕ, ◌<◌, ◌≤◌, length}
-use Rattle.sml_lexer.specs.Tokens.{StandsAt, IsLongAt}
+use Rattle.sml_lexer.specs.Tokens.{StandsAt}
+use Rattle.sml_lexer.specs.LongPlaces.{IsLongAt}
 use Rattle.sml_lexer.proofs.Parts.{Tail}
 use Rattle.sml_lexer.proofs.longest.long_at.Given as goal
 

@@ -1,6 +1,6 @@
 use Rattle.std.proofs.Common.{◌-◌, ◌≤◌, length, drop}
 use Rattle.ty_parser.specs.Sorts.{sorts_of}
-use Rattle.ty_parser.specs.Machine.{state_of}
+use Rattle.ty_parser.specs.machine.Machine.{state_of}
 use Rattle.ty_parser.proofs.Parts.{ReadPart}
 use Rattle.ty_parser.proofs.parse.read_part.Given as goal
 

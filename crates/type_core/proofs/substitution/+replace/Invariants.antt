@@ -1,9 +1,12 @@
-use Rattle.std.proofs.Common.{◌≡◌, ◌++◌, map, drop}
+use Rattle.std.proofs.Common.{◌≡◌, ◌++◌, map, drop, take}
+use Rattle.type_core.specs.Kept.{or_kept}
 use Rattle.type_core.specs.Substitution.{field_substituted, substituted}
 use Rattle.type_core.proofs.substitution.+replace.Given as goal
 
-abbrev pub invariant-replace_all-loop-part : goal.invariant-replace_all-loop-part
-invariant-replace_all-loop-part l = l.done ++ map (substituted l.by) (drop l.part-index l.parts) ≡ map (substituted l.by) l.parts
+abbrev pub invariant-replaced_all-loop-i : goal.invariant-replaced_all-loop-i
+invariant-replaced_all-loop-i l =
+    or_kept (take l.i l.parts) l.done ++ map (substituted l.by) (drop l.i l.parts) ≡ map (substituted l.by) l.parts
 
-abbrev pub invariant-replace_fields-loop-field : goal.invariant-replace_fields-loop-field
-invariant-replace_fields-loop-field l = l.done ++ map (field_substituted l.by) (drop l.field-index l.fields) ≡ map (field_substituted l.by) l.fields
+abbrev pub invariant-replaced_fields-loop-i : goal.invariant-replaced_fields-loop-i
+invariant-replaced_fields-loop-i l =
+    or_kept (take l.i l.fields) l.done ++ map (field_substituted l.by) (drop l.i l.fields) ≡ map (field_substituted l.by) l.fields

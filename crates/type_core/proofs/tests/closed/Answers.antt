@@ -3,4 +3,4 @@ use Rattle.type_core.proofs.Renamed.{variables_bounded}
 use Rattle.type_core.proofs.tests.closed.Goals as goal
 
 pub close-requires : goal.close-requires
-close-requires c = record { fits = omega (arith, variables_bounded c.args.t, c.size.ensures.value) }
+close-requires c = record { fits = omega (arith, variables_bounded c.args.t.now, c.size.ensures.value) }

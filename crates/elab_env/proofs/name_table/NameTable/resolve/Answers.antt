@@ -9,7 +9,7 @@ pub returns : goal.returns
 returns c =
     let rs = c.args.self.now.realizations in
     record {
-      value = c.resolve_from.ensures.value;
-      resolved = IfOk-weaker c.resolve_from.result (λ r. r ≡ resolved rs c.args.t.now) (IsResolved rs)
-          (λ r e. subst (IsResolved rs) (sym e) (resolved_is_resolved rs c.args.t.now c.is_sound.ensures.sound.settled)) c.resolve_from.ensures.value;
+      value = c.resolve.ensures.value;
+      resolved = IfOk-weaker c.resolve.result (λ r. r ≡ resolved rs c.args.t.now) (IsResolved rs)
+          (λ r e. subst (IsResolved rs) (sym e) (resolved_is_resolved rs c.args.t.now c.is_sound.ensures.sound.settled)) c.resolve.ensures.value;
     }

@@ -7,4 +7,4 @@ pub returns-then-has_none : goal.returns-then-has_none
 returns-then-has_none c = enclosed_one c.args.self.now.around c.args.self.now.level c.args.count c.args.self.now.types c.args.self.now.fields c.args.last (c.has_none.ensures.value.0 c.if-has_none.true)
 
 pub returns : goal.returns
-returns c = enclosed_more c.args.self.now.around c.args.self.now.level c.args.count c.args.self.now.types c.args.self.now.fields c.args.last _ _ _ _ (λ none. false≢true (sym c.if-has_none.false ∙ c.has_none.ensures.value.1 none)) c.in_ok-push.ensures.pushed c.in_ok-one_more.ensures.value c.in_ok-self.ensures.taken c.in_ok-self.ensures.rest
+returns c = enclosed_more c.args.self.now.around c.args.self.now.level c.args.count c.args.self.now.types c.args.self.now.fields c.args.last _ _ _ _ (λ none. false≢true (sym c.if-has_none.false ∙ c.has_none.ensures.value.1 none)) c.in_ok-all.ensures.last c.in_ok-all.ensures.before c.in_ok-self.ensures.taken c.in_ok-self.ensures.rest

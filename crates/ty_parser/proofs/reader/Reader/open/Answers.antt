@@ -1,5 +1,5 @@
 use Rattle.std.proofs.Common.{ap}
-use Rattle.ty_parser.specs.Machine.{Want}
+use Rattle.ty_parser.specs.machine.Machine.{Want}
 use Rattle.ty_parser.proofs.Pieces.{opened_is}
 use Rattle.ty_parser.proofs.reader.Reader.open.Goals as goal
 

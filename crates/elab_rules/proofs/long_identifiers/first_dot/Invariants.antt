@@ -1,7 +1,0 @@
-use Rattle.std.proofs.Common.{◌≡◌, drop, take}
-use Rattle.elab_rules.specs.LongIdentifiers.{parts}
-use Rattle.elab_rules.proofs.DottedParts.{with_front}
-use Rattle.elab_rules.proofs.long_identifiers.first_dot.Given as goal
-
-abbrev pub invariant-loop-i : goal.invariant-loop-i
-invariant-loop-i l = parts l.text ≡ with_front (take l.i l.text) (parts (drop l.i l.text))

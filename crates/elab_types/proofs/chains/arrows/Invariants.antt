@@ -1,9 +1,0 @@
-use Rattle.std.proofs.Common.{◌≡◌, [], ◌∷◌, ◌++◌, length}
-use Rattle.elab_types.specs.Arrows.{arrows}
-use Rattle.elab_types.proofs.chains.arrows.Given as goal
-
-abbrev pub invariant-sides : goal.invariant-sides
-invariant-sides l = arrows (l.sides ++ l.to ∷ []) ≡ arrows l.fn.sides
-
-abbrev pub decreases-sides : goal.decreases-sides
-decreases-sides l = length l.sides

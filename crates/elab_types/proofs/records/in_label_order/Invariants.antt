@@ -1,9 +1,0 @@
-use Rattle.std.proofs.Common.{◌≡◌, length}
-use Rattle.elab_types.specs.Records.{all_inserted, in_label_order}
-use Rattle.elab_types.proofs.records.in_label_order.Given as goal
-
-abbrev pub invariant-fields : goal.invariant-fields
-invariant-fields l = all_inserted l.fields l.sorted.items ≡ in_label_order l.fn.fields
-
-abbrev pub decreases-fields : goal.decreases-fields
-decreases-fields l = length l.fields
