@@ -1,0 +1,9 @@
+pub mod Numbering
+pub mod Erasure
+pub mod Alike
+pub mod Tops
+pub mod Meanings
+pub mod Sorting
+pub mod Tables
+pub mod TypeTables
+pub mod CoordTables
