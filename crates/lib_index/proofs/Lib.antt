@@ -1,0 +1,17 @@
+pub mod Meeting
+pub mod Loops
+pub mod Spending
+pub mod Fields
+pub mod Lists
+pub mod TypeTexts
+pub mod EachOf
+pub mod TypesSound
+pub mod TypesComplete
+pub mod TypeSteps
+pub mod SchemeMarks
+pub mod Items
+pub mod Charging
+pub mod Libraries
+pub mod Fitting
+pub mod OneLibrary
+pub mod TextLength

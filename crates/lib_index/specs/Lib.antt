@@ -1,0 +1,4 @@
+pub mod IndexText
+pub mod Indexes
+pub mod Marks
+pub mod Reading
