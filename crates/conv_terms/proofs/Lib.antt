@@ -1,3 +1,12 @@
 pub mod Equations
 pub mod Moving
 pub mod Bounds
+pub mod Forms
+pub mod RedexFree
+pub mod LongForms
+pub mod Lowering
+pub mod Projections
+pub mod ShortNormals
+pub mod EqualTerms
+pub mod Contractions
+pub mod Shortening

@@ -2,8 +2,8 @@
 ghost use Rattle.std.specs.Prelude.{◌≡◌, ◌+◌, ◌<◌, ◌≤◌, ◌^◌, max, IfOk};
 ghost use Rattle.conv_terms.specs.Levels.{levels, nesting};
 
-use crate::{Term, shift, subst};
-use sig_base::{Boxed, List, NoMemory, Text};
+use crate::{Term, is_short_normal, shift, subst};
+use sig_base::{Boxed, List, NoMemory, Row, Text};
 use std::alloc::Global;
 use std::test::Fail;
 use type_core::Ty;
@@ -30,7 +30,7 @@ fn abstraction(alloc: Global, body: Term) -> Result<Term, NoMemory>
     ensures levels { IfOk result (λ t. levels t ≡ levels body) }
     ensures nesting { IfOk result (λ t. nesting t ≡ nesting body + 1) }
 {
-    let a = Boxed::new(alloc, Ty::Tup(List::new(alloc)))?;
+    let a = Boxed::new(alloc, Ty::Tup(Row::empty()))?;
     let body = Boxed::new(alloc, body)?;
     Ok(Term::Lam(a, body))
 }
@@ -164,5 +164,71 @@ fn terms_are_substituted_below_two_binders(rt: HostRuntime) -> Result<(), Fail> 
     let own = abstraction(alloc, variable(1))?;
     let by = application(alloc, variable(0), own)?;
     assert!(rt; substitutes(alloc, t, 1, by, b"\\\\((0 \\3) 2)")?);
+    Ok(())
+}
+
+/// Component `i` of `n` of the term.
+fn projection(alloc: Global, i: u32, n: u32, e: Term) -> Result<Term, NoMemory> {
+    let e = Boxed::new(alloc, e)?;
+    Ok(Term::Proj(i, n, e))
+}
+
+fn pair(alloc: Global, first: Term, second: Term) -> Result<Term, NoMemory> {
+    let mut components = List::new(alloc);
+    components.push(first)?;
+    components.push(second)?;
+    Ok(Term::Tup(components))
+}
+
+/// The pair of components `i` and `j` of `n` of the variable.
+fn components(alloc: Global, i: u32, j: u32, n: u32) -> Result<Term, NoMemory> {
+    let first = projection(alloc, i, n, variable(0))?;
+    let second = projection(alloc, j, n, variable(0))?;
+    let both = pair(alloc, first, second)?;
+    abstraction(alloc, both)
+}
+
+#[test]
+fn short_terms_have_no_beta_redex(rt: HostRuntime) -> Result<(), Fail> {
+    let alloc = rt.alloc();
+    let identity = abstraction(alloc, variable(0))?;
+    assert!(rt; is_short_normal(&identity));
+    let redex = application(alloc, identity, unit(alloc))?;
+    assert!(rt; !is_short_normal(&redex));
+    let below = abstraction(alloc, redex)?;
+    assert!(rt; !is_short_normal(&below));
+    Ok(())
+}
+
+#[test]
+fn short_terms_have_no_projection_from_a_tuple_of_that_length(rt: HostRuntime) -> Result<(), Fail> {
+    let alloc = rt.alloc();
+    let both = pair(alloc, unit(alloc), unit(alloc))?;
+    assert!(rt; !is_short_normal(&projection(alloc, 1, 2, both)?));
+    let both = pair(alloc, unit(alloc), unit(alloc))?;
+    assert!(rt; is_short_normal(&projection(alloc, 1, 3, both)?));
+    Ok(())
+}
+
+#[test]
+fn short_terms_are_not_to_be_contracted_by_eta(rt: HostRuntime) -> Result<(), Fail> {
+    let alloc = rt.alloc();
+    // fn f => fn x => f x, fn f => fn x => f f, fn f => fn x => x x
+    let cases = [(0, 1, false), (0, 0, true), (1, 1, true)];
+    for (function, argument, short) in cases {
+        let body = application(alloc, variable(function), variable(argument))?;
+        let inner = abstraction(alloc, body)?;
+        assert!(rt; is_short_normal(&abstraction(alloc, inner)?) == short);
+    }
+    Ok(())
+}
+
+#[test]
+fn short_terms_are_not_to_be_contracted_by_surjective_pairing(rt: HostRuntime) -> Result<(), Fail> {
+    let alloc = rt.alloc();
+    assert!(rt; !is_short_normal(&components(alloc, 1, 2, 2)?));
+    assert!(rt; is_short_normal(&components(alloc, 2, 1, 2)?));
+    assert!(rt; is_short_normal(&components(alloc, 1, 2, 3)?));
+    assert!(rt; is_short_normal(&unit(alloc)));
     Ok(())
 }

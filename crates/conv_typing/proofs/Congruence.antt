@@ -10,7 +10,8 @@ use Rattle.conv_terms.specs.Substitution.{Images, traversed, each_below, images,
 use Rattle.conv_terms.proofs.Equations.{traversed_var, traversed_lam, traversed_app, traversed_tup, traversed_proj}
 use Rattle.conv_terms.proofs.Moving.{raising, agreeing, shifted_traversed, below_or_from, images_known, images_other, all_of_shifted, all_of_substituted, raising_images}
 use Rattle.conv_typing.specs.Typing.{HasType, HaveTypes, AreTyped}
-use Rattle.conv_typing.specs.Conversion.{Converts, ConvertEach, AreConvertible, projections}
+use Rattle.conv_terms.specs.Contraction.{projections}
+use Rattle.conv_typing.specs.Conversion.{Converts, ConvertEach, AreConvertible}
 use Rattle.conv_typing.proofs.TypesAlone.{has_type_is_type}
 use Rattle.conv_typing.proofs.Kept.{converts_typed}
 use Rattle.conv_typing.proofs.Weakening.{Fits, traversed_typed, traversed_each, get_left, get_right, longer, one_more, shift_fits, terms_fit}
@@ -75,13 +76,13 @@ module _ (terms : ℕ → Term) (g h : List Ty) (fits : Fits (images (length g) 
     traversed_converts {ctx = ctx} (Converts.beta a {b} t e k l) d c =
         subst₂ (Converts (h ++ d) b) (sym (traversed_app at (term.Lam a t) e (length d) ∙ ap (λ f. term.App f (traversed at e (length d))) (traversed_lam at a t (length d)))) (sym (beta_end ctx d e t c))
         (Converts.beta a (traversed at t (length d + 1)) (traversed at e (length d)) (fit_under ctx a t b k d c) (fit l d c))
-    traversed_converts {a = a} (Converts.part i types ts t l ks p q) d c =
+    traversed_converts {a = a} (Converts.projection i types ts t l ks p q) d c =
         subst (λ x. Converts (h ++ d) a x (traversed at t (length d))) (sym (traversed_proj at (i + 1) (length types) (term.Tup ts) (length d) ∙ ap (term.Proj (i + 1) (length types)) (traversed_tup at ts (length d))))
-        (Converts.part i types (each_below (map (traversed at) ts) (length d)) (traversed at t (length d)) l (traversed_each at g h fits ks d c) p (traversed_get at ts i (length d) t q))
+        (Converts.projection i types (each_below (map (traversed at) ts) (length d)) (traversed at t (length d)) l (traversed_each at g h fits ks d c) p (traversed_get at ts i (length d) t q))
     traversed_converts {ctx = ctx} (Converts.eta a b f k) d c =
         subst (λ x. Converts (h ++ d) (ty.Arrow a b) x (traversed at f (length d))) (sym (eta_end ctx d a f c)) (Converts.eta a b (traversed at f (length d)) (fit k d c))
-    traversed_converts (Converts.whole types e l k) d c =
-        subst (λ x. Converts (h ++ d) (ty.Tup types) x (traversed at e (length d))) (sym (whole_end types d e)) (Converts.whole types (traversed at e (length d)) l (fit k d c))
+    traversed_converts (Converts.surjective_pairing types e l k) d c =
+        subst (λ x. Converts (h ++ d) (ty.Tup types) x (traversed at e (length d))) (sym (whole_end types d e)) (Converts.surjective_pairing types (traversed at e (length d)) l (fit k d c))
 
     pub traversed_convert : {ctx : List Ty} {types : List Ty} {ts us : List Term} → ConvertEach ctx types ts us → (d : List Ty) → ctx ≡ g ++ d → ConvertEach (h ++ d) types (each_below (map (traversed at) ts) (length d)) (each_below (map (traversed at) us) (length d))
     traversed_convert ConvertEach.none d c = ConvertEach.none

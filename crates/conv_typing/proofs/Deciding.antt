@@ -9,9 +9,10 @@ use Rattle.type_core.specs.Types.{is_type}
 use Rattle.conv_terms.specs.declared.term.Term.{Term}
 use Rattle.conv_terms.specs.declared.term.Term.TheVariants as term
 use Rattle.conv_typing.specs.Typing.{HasType, HaveTypes}
-use Rattle.conv_typing.specs.TypeOf.{IsTypeOf, AreTypesOf, IsResult, if_type, function_from, tuple_of, component, component_step, from_one}
+use Rattle.conv_typing.specs.deciding.TypeOf.{IsTypeOf, AreTypesOf, IsResult, if_type, function_from, tuple_of, component, component_step, from_one}
 use Rattle.conv_typing.proofs.Types.{out_tup, one_tuple, is_tuple}
-use Rattle.conv_typing.proofs.Inversion.{some_is, none_not, of_var, of_lam, of_app, of_tup, of_proj, one_type, one_types, same_place}
+use Rattle.conv_terms.proofs.Forms.{some_is, none_not, same_place}
+use Rattle.conv_typing.proofs.Inversion.{of_var, of_lam, of_app, of_tup, of_proj, one_type, one_types}
 
 -- what is answered is the one type
 pub the_type : {ctx : List Ty} {t : Term} (r : Option Ty) → IsTypeOf ctx t r → (a : Ty) → (r ≡ Some a) ↔ HasType ctx t a
@@ -125,11 +126,11 @@ module _ (ctx : List Ty) (t : Term) where
       subst₂ (IsTypeOf ctx) (sym is) (ap (λ z. function_from z b) (sym y_is) ∙ sym e)
       (lam_type ctx a body b (subst₂ (λ c u. IsTypeOf c u b) (inner_is ∙ ap (λ z. ctx ++ z ∷ []) x_is) part_is k)))
 
-  pub app_answer : (f e g h : Term) (o p r : Option Ty) → t ≡ term.App f e → g ≡ f → h ≡ e → IsTypeOf ctx g o → IsTypeOf ctx h p → IsResult o p r → IsTypeOf ctx t r
-  app_answer f e g h o p r is g_is h_is k l m = subst (λ u. IsTypeOf ctx u r) (ap₂ term.App g_is h_is ∙ sym is) (app_type ctx g h o p r k l m)
+  pub app_answer : (f e g h : Term) (o p : Option Ty) (r : Result (Option Ty) NoMemory) → t ≡ term.App f e → g ≡ f → h ≡ e → IsTypeOf ctx g o → IsTypeOf ctx h p → IfOk r (IsResult o p) → IfOk r (IsTypeOf ctx t)
+  app_answer f e g h o p r is g_is h_is k l = if_ok r (λ a m. subst (λ u. IsTypeOf ctx u a) (ap₂ term.App g_is h_is ∙ sym is) (app_type ctx g h o p a k l m))
 
-  pub tup_answer : (terms seen : List Term) (o : Option (List Ty)) (r : Option Ty) → t ≡ term.Tup terms → seen ≡ terms → AreTypesOf ctx seen o → r ≡ tuple_of o → IsTypeOf ctx t r
-  tup_answer terms seen o r is seen_is k e = subst₂ (IsTypeOf ctx) (ap term.Tup seen_is ∙ sym is) (sym e) (tup_type ctx seen o k)
+  pub tup_answer : (terms seen : List Term) (o : Option (List Ty)) (r : Result (Option Ty) NoMemory) → t ≡ term.Tup terms → seen ≡ terms → AreTypesOf ctx seen o → IfOk r (λ a. a ≡ tuple_of o) → IfOk r (IsTypeOf ctx t)
+  tup_answer terms seen o r is seen_is k = if_ok r (λ a e. subst₂ (IsTypeOf ctx) (ap term.Tup seen_is ∙ sym is) (sym e) (tup_type ctx seen o k))
 
   pub proj_answer : (i n : ℕ) (e g : Term) (o : Option Ty) (r : Result (Option Ty) NoMemory) → t ≡ term.Proj i n e → g ≡ e → IsTypeOf ctx g o → IfOk r (λ a. a ≡ component i n o) → IfOk r (λ a. IsTypeOf ctx t a)
   proj_answer i n e g o r is g_is k = if_ok r (λ a p. subst₂ (IsTypeOf ctx) (ap (term.Proj i n) g_is ∙ sym is) (sym p) (proj_type ctx i n g o k))

@@ -1,39 +1,14 @@
 -- What a typing of a term tells of its parts, and that a term has one type.
-use Rattle.std.proofs.Common.{◌≡◌, ◌≢◌, ℕ, ◌+◌, List, [], ◌∷◌, ◌++◌, length, slice_get, unwrap_or, Option, Some, None, rules, refl, sym, ap, ap₂, ◌∙◌, subst, arith}
+use Rattle.std.proofs.Common.{◌≡◌, ◌≢◌, ℕ, ◌+◌, List, [], ◌∷◌, ◌++◌, length, slice_get, Some, refl, sym, ap, ap₂, ◌∙◌, subst}
 use Rattle.type_core.specs.declared.ty.Ty.{Ty}
 use Rattle.type_core.specs.declared.ty.Ty.TheVariants as ty
 use Rattle.type_core.specs.Types.{IsType}
 use Rattle.conv_terms.specs.declared.term.Term.{Term, out-Term}
 use Rattle.conv_terms.specs.declared.term.Term.TheVariants as term
 use Rattle.conv_terms.specs.declared.term.Term.TheOpen.{Term-F, Var, Lam, App, Tup, Proj}
-use Rattle.conv_terms.specs.declared.term.Term.TheViews.{the_lemmas}
+use Rattle.conv_terms.proofs.Forms.{some_is, same_place, out_var, out_lam, out_app, out_tup, out_proj}
 use Rattle.conv_typing.specs.Typing.{HasType, HaveTypes}
 use Rattle.conv_typing.proofs.Types.{one_range, one_tuple}
-
-pub some_is : {A : Type 0} (a b : A) → Some a ≡ Some b → a ≡ b
-some_is a b p = ap (λ o. unwrap_or o a) p
-
-abbrev IsThere : {A : Type 0} → Option A → Type 0
-IsThere (Some a) = Unit {0}
-IsThere None = ⊥
-
-pub none_not : {A : Type 0} (a : A) → None ≡ Some a → ⊥
-none_not a p = subst IsThere (sym p) tt
-
-out_var : (n : ℕ) → out-Term (term.Var n) ≡ Var n
-out_var n = search (rules, the_lemmas)
-
-out_lam : (a : Ty) (body : Term) → out-Term (term.Lam a body) ≡ Lam a body
-out_lam a body = search (rules, the_lemmas)
-
-out_app : (f e : Term) → out-Term (term.App f e) ≡ App f e
-out_app f e = search (rules, the_lemmas)
-
-out_tup : (ts : List Term) → out-Term (term.Tup ts) ≡ Tup ts
-out_tup ts = search (rules, the_lemmas)
-
-out_proj : (i n : ℕ) (e : Term) → out-Term (term.Proj i n e) ≡ Proj i n e
-out_proj i n e = search (rules, the_lemmas)
 
 -- the premises of the one rule for this form of term
 abbrev Premises : List Ty → Term-F Term → Ty → Type 0
@@ -64,9 +39,6 @@ of_tup ctx ts c k = subst (λ v. Premises ctx v c) (out_tup ts) (inverted k)
 
 pub of_proj : (ctx : List Ty) (i n : ℕ) (e : Term) (a : Ty) → HasType ctx (term.Proj i n e) a → (k : ℕ) × (types : List Ty) × (i ≡ k + 1) × (n ≡ length types) × (length types ≢ 1) × (slice_get types k ≡ Some a) × HasType ctx e (ty.Tup types)
 of_proj ctx i n e a k = subst (λ v. Premises ctx v a) (out_proj i n e) (inverted k)
-
-pub same_place : (i k : ℕ) → i + 1 ≡ k + 1 → i ≡ k
-same_place i k e = omega (arith, e)
 
 mutual
   pub one_type : {ctx : List Ty} {t : Term} {a : Ty} → HasType ctx t a → (b : Ty) → HasType ctx t b → a ≡ b

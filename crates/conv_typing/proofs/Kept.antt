@@ -6,8 +6,9 @@ use Rattle.conv_terms.specs.declared.term.Term.{Term}
 use Rattle.conv_terms.specs.declared.term.Term.TheVariants as term
 use Rattle.conv_terms.specs.Shifting.{shifted}
 use Rattle.conv_typing.specs.Typing.{HasType, HaveTypes}
-use Rattle.conv_typing.specs.Conversion.{Converts, ConvertEach, projections}
-use Rattle.conv_typing.proofs.Inversion.{some_is, none_not}
+use Rattle.conv_terms.specs.Contraction.{projections}
+use Rattle.conv_typing.specs.Conversion.{Converts, ConvertEach}
+use Rattle.conv_terms.proofs.Forms.{some_is, none_not}
 use Rattle.conv_typing.proofs.TypesAlone.{has_type_is_type, argument_is_type}
 use Rattle.conv_typing.proofs.Weakening.{get_right, shifted_typed_end, substituted_typed, one_more}
 
@@ -35,8 +36,8 @@ last_type ctx a =
     let none : length ctx - length ctx ≡ 0 = omega arith in
     get_right ctx (a ∷ []) (length ctx) low ∙ ap (slice_get (a ∷ [])) none
 
-pub all_projections : (ctx : List Ty) (e : Term) (types : List Ty) → length types ≢ 1 → HasType ctx e (ty.Tup types) → HaveTypes ctx (projections e (length types) 1 (length types)) types
-all_projections ctx e types less k =
+pub all_projections_typed : (ctx : List Ty) (e : Term) (types : List Ty) → length types ≢ 1 → HasType ctx e (ty.Tup types) → HaveTypes ctx (projections e (length types) 1 (length types)) types
+all_projections_typed ctx e types less k =
     let one : 0 + 1 ≡ 1 = omega arith in
     subst (λ i. HaveTypes ctx (projections e (length types) i (length types)) types) one (projections_typed ctx e types less k [] types refl)
 
@@ -53,9 +54,9 @@ mutual
   converts_typed (Converts.tup types ts us l ks) = (HasType.tup ts types l (each_typed ks).0, HasType.tup us types l (each_typed ks).1)
   converts_typed (Converts.proj i types t u less l k) = (HasType.proj i t types less l (converts_typed k).0, HasType.proj i u types less l (converts_typed k).1)
   converts_typed {ctx = ctx} (Converts.beta a {b} t e k l) = (HasType.app (term.Lam a t) e (HasType.lam a t (has_type_is_type l) k) l, substituted_typed ctx a e t b l k)
-  converts_typed {a = a} (Converts.part i types ts t l ks p q) = (HasType.proj i (term.Tup ts) types l p (HasType.tup ts types l ks), at_place ks i a t p q)
+  converts_typed {a = a} (Converts.projection i types ts t l ks p q) = (HasType.proj i (term.Tup ts) types l p (HasType.tup ts types l ks), at_place ks i a t p q)
   converts_typed {ctx = ctx} (Converts.eta a b f k) = (expanded_typed ctx a b f k, k)
-  converts_typed {ctx = ctx} (Converts.whole types e l k) = (HasType.tup _ types l (all_projections ctx e types l k), k)
+  converts_typed {ctx = ctx} (Converts.surjective_pairing types e l k) = (HasType.tup _ types l (all_projections_typed ctx e types l k), k)
 
   pub each_typed : {ctx : List Ty} {types : List Ty} {ts us : List Term} → ConvertEach ctx types ts us → HaveTypes ctx ts types × HaveTypes ctx us types
   each_typed ConvertEach.none = (HaveTypes.none, HaveTypes.none)

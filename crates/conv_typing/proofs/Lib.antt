@@ -7,3 +7,8 @@ pub mod Weakening
 pub mod Kept
 pub mod Congruence
 pub mod Identities
+pub mod LongForms
+pub mod Existence
+pub mod Contractions
+pub mod InversePairs
+pub mod ShortForms

@@ -1,5 +1,5 @@
 -- The views of types, and what they tell apart.
-use Rattle.std.proofs.Common.{◌≡◌, List, rules, sym, ap, ◌∙◌}
+use Rattle.std.proofs.Common.{◌≡◌, List, rules, sym, ap, ◌∙◌, subst}
 use Rattle.type_core.specs.declared.ty.VarId.{VarId}
 use Rattle.type_core.specs.declared.ty.NameId.{NameId}
 use Rattle.type_core.specs.declared.ty.Field.{Field}
@@ -26,6 +26,10 @@ out_arrow a b = search (rules, the_lemmas)
 
 pub ruleset out_at = (out_var, out_con, out_rec, out_tup, out_arrow)
 
+abbrev domain : Ty → Ty-F Ty Field → Ty
+domain other (Arrow a b) = a
+domain other _ = other
+
 abbrev range : Ty → Ty-F Ty Field → Ty
 range other (Arrow a b) = b
 range other _ = other
@@ -33,6 +37,9 @@ range other _ = other
 abbrev parts : List Ty → Ty-F Ty Field → List Ty
 parts other (Tup ts) = ts
 parts other _ = other
+
+pub one_domain : (a b c d : Ty) → ty.Arrow a b ≡ ty.Arrow c d → a ≡ c
+one_domain a b c d e = sym (ap (domain a) (out_arrow a b)) ∙ ap (λ t. domain a (out-Ty t)) e ∙ ap (domain a) (out_arrow c d)
 
 pub one_range : (a b c d : Ty) → ty.Arrow a b ≡ ty.Arrow c d → b ≡ d
 one_range a b c d e = sym (ap (range b) (out_arrow a b)) ∙ ap (λ t. range b (out-Ty t)) e ∙ ap (range b) (out_arrow c d)
@@ -42,3 +49,11 @@ one_tuple ts us e = sym (ap (parts ts) (out_tup ts)) ∙ ap (λ t. parts ts (out
 
 pub is_tuple : (t : Ty) (ts : List Ty) → out-Ty t ≡ Tup ts → t ≡ ty.Tup ts
 is_tuple t ts e = search (rules, the_lemmas)
+
+-- a function type is no tuple type
+abbrev IsFunction : Ty-F Ty Field → Type 0
+IsFunction (Arrow a b) = Unit {0}
+IsFunction _ = ⊥
+
+pub no_function : (a b : Ty) (ts : List Ty) → ¬ (ty.Arrow a b ≡ ty.Tup ts)
+no_function a b ts e = subst IsFunction (sym (out_arrow a b) ∙ ap out-Ty e ∙ out_tup ts) tt

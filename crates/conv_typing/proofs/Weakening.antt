@@ -6,11 +6,11 @@ use Rattle.type_core.specs.Types.{IsType}
 use Rattle.conv_terms.specs.declared.term.Term.{Term}
 use Rattle.conv_terms.specs.declared.term.Term.TheVariants as term
 use Rattle.conv_terms.specs.Shifting.{raised, shifted}
-use Rattle.conv_terms.specs.Substitution.{Images, traversed, each_below, images, substituted, substituted_all, only}
+use Rattle.conv_terms.specs.Substitution.{Images, traversed, each_below, image, images, substituted, substituted_all, only}
 use Rattle.conv_terms.proofs.Equations.{traversed_var, traversed_lam, traversed_app, traversed_tup, traversed_proj}
 use Rattle.conv_terms.proofs.Moving.{raising, shifted_traversed, raised_low, raised_high, images_known, images_other, below_or_from, substituted_one}
 use Rattle.conv_typing.specs.Typing.{HasType, HaveTypes, AreTyped}
-use Rattle.conv_typing.proofs.Inversion.{some_is, none_not}
+use Rattle.conv_terms.proofs.Forms.{some_is, none_not}
 
 pub get_left : (g d : List Ty) (n : ℕ) → n < length g → slice_get (g ++ d) n ≡ slice_get g n
 get_left [] d n h = let never : ⊥ = omega arith in absurd never
@@ -55,19 +55,23 @@ module _ (at : Images) (g h : List Ty) (fits : Fits at g h) where
     traversed_each HaveTypes.none inner is = HaveTypes.none
     traversed_each (HaveTypes.more k ks) inner is = HaveTypes.more (traversed_typed k inner is) (traversed_each ks inner is)
 
-pub shift_fits : (g x : List Ty) → Fits (raising (length g) (length x)) g (g ++ x)
-shift_fits g x d n a l is = HasType.var (raised (length g) (length x) n) (cases (below_or_from n (length g))) is
+-- what is found for a variable, before the shift and after
+pub shifted_variable : (g x inner : List Ty) (n : ℕ) → slice_get ((g ++ x) ++ inner) (raised (length g) (length x) n) ≡ slice_get (g ++ inner) n
+shifted_variable g x inner n = cases (below_or_from n (length g))
   where
-    cases : (n < length g) ⊎ (length g ≤ n) → slice_get ((g ++ x) ++ d) (raised (length g) (length x) n) ≡ Some a
+    cases : (n < length g) ⊎ (length g ≤ n) → slice_get ((g ++ x) ++ inner) (raised (length g) (length x) n) ≡ slice_get (g ++ inner) n
     cases (inl h) =
-        ap (slice_get ((g ++ x) ++ d)) (raised_low (length g) (length x) n h) ∙ ap (λ y. slice_get y n) (append_assoc g x d)
-        ∙ get_left g (x ++ d) n h ∙ sym (get_left g d n h) ∙ l
+        ap (slice_get ((g ++ x) ++ inner)) (raised_low (length g) (length x) n h) ∙ ap (λ y. slice_get y n) (append_assoc g x inner)
+        ∙ get_left g (x ++ inner) n h ∙ sym (get_left g inner n h)
     cases (inr h) =
         let e : n + length x - length g - length x ≡ n - length g = omega arith in
         let one : length g ≤ n + length x = omega arith in
         let two : length x ≤ n + length x - length g = omega arith in
-        ap (slice_get ((g ++ x) ++ d)) (raised_high (length g) (length x) n h) ∙ ap (λ y. slice_get y (n + length x)) (append_assoc g x d)
-        ∙ get_right g (x ++ d) _ one ∙ get_right x d _ two ∙ ap (slice_get d) e ∙ sym (get_right g d n h) ∙ l
+        ap (slice_get ((g ++ x) ++ inner)) (raised_high (length g) (length x) n h) ∙ ap (λ y. slice_get y (n + length x)) (append_assoc g x inner)
+        ∙ get_right g (x ++ inner) _ one ∙ get_right x inner _ two ∙ ap (slice_get inner) e ∙ sym (get_right g inner n h)
+
+pub shift_fits : (g x : List Ty) → Fits (raising (length g) (length x)) g (g ++ x)
+shift_fits g x d n a l is = HasType.var (raised (length g) (length x) n) (shifted_variable g x d n ∙ l) is
 
 -- a context may be made longer in the middle
 pub shifted_typed : (g x d : List Ty) (t : Term) (a : Ty) → HasType (g ++ d) t a → HasType ((g ++ x) ++ d) (shifted (length g) (length x) t) a
@@ -103,8 +107,13 @@ only_typed g b e k n a p is = cases (below_or_from n (length g))
     cases (inl h) = subst (λ c. HasType g (if c then term.Var n else e) a) (sym (lt-ltb n (length g) h)) (HasType.var n (sym (get_left g (b ∷ []) n h) ∙ p) is)
     cases (inr h) = subst₂ (λ c x. HasType g (if c then term.Var n else e) x) (sym (le-ltb n (length g) h)) (alone b a _ (sym (get_right g (b ∷ []) n h) ∙ p)) k
 
+-- below inner binders too
+pub substituted_below_typed : (ctx inner : List Ty) (b : Ty) (e t : Term) (a : Ty) → HasType ctx e b → HasType ((ctx ++ b ∷ []) ++ inner) t a → HasType (ctx ++ inner) (traversed (image (length ctx) e) t (length inner)) a
+substituted_below_typed ctx inner b e t a k l =
+    let all = all_typed (ctx ++ b ∷ []) ctx inner (only (length ctx) e) t a (only_typed ctx b e k) l in
+    let one = ap (λ n. traversed (images n (length ctx) (only (length ctx) e)) t (length inner)) (one_more ctx b) ∙ sym (substituted_one (length ctx) (length inner) e t) in
+    subst (λ u. HasType (ctx ++ inner) u a) one all
+
 pub substituted_typed : (g : List Ty) (b : Ty) (e t : Term) (a : Ty) → HasType g e b → HasType (g ++ b ∷ []) t a → HasType g (substituted (length g) e t) a
-substituted_typed g b e t a k l =
-    let all = all_typed (g ++ b ∷ []) g [] (only (length g) e) t a (only_typed g b e k) (subst (λ c. HasType c t a) (sym (append-nil (g ++ b ∷ []))) l) in
-    let one = ap (λ n. traversed (images n (length g) (only (length g) e)) t 0) (one_more g b) ∙ sym (substituted_one (length g) 0 e t) in
-    subst₂ (λ c u. HasType c u a) (append-nil g) one all
+substituted_typed g b e t a k l = subst (λ c. HasType c (substituted (length g) e t) a) (append-nil g)
+    (substituted_below_typed g [] b e t a k (subst (λ c. HasType c t a) (sym (append-nil (g ++ b ∷ []))) l))

@@ -1,5 +1,5 @@
 -- Conversion: which terms are one at a type in a context.
-use Rattle.std.specs.Prelude.{◌≡◌, ◌≢◌, ℕ, ◌+◌, List, [], ◌∷◌, ◌++◌, length, slice_get, Some, zero, suc}
+use Rattle.std.specs.Prelude.{◌≡◌, ◌≢◌, ℕ, ◌+◌, List, [], ◌∷◌, ◌++◌, length, slice_get, Some}
 use Rattle.type_core.specs.declared.ty.Ty.{Ty}
 use Rattle.type_core.specs.declared.ty.Ty.TheVariants as ty
 use Rattle.type_core.specs.Types.{IsType}
@@ -7,17 +7,12 @@ use Rattle.conv_terms.specs.declared.term.Term.{Term}
 use Rattle.conv_terms.specs.declared.term.Term.TheVariants as term
 use Rattle.conv_terms.specs.Shifting.{shifted}
 use Rattle.conv_terms.specs.Substitution.{substituted}
+use Rattle.conv_terms.specs.Contraction.{all_projections}
 use Rattle.conv_typing.specs.Typing.{HasType, HaveTypes}
-
--- `count` projections of n from e, beginning with the i-th
-abbrev pub projections : Term → ℕ → ℕ → ℕ → List Term
-projections e n i zero = []
-projections e n i (suc count) = term.Proj i n e ∷ projections e n (i + 1) count
 
 mutual
   -- the terms convert: the least equivalence on the terms of a type that may be applied to every part of a
-  -- term, with a redex equal to its contractum, a component of a tuple to the component, and a function and
-  -- a tuple to what is made of their results and of their components
+  -- term, with beta, projection, eta and surjective pairing
   pub data Converts : List Ty → Ty → Term → Term → Type 0 where
     same : {ctx : List Ty} {a : Ty} {t : Term} → HasType ctx t a → Converts ctx a t t
     back : {ctx : List Ty} {a : Ty} {t u : Term} → Converts ctx a t u → Converts ctx a u t
@@ -29,11 +24,11 @@ mutual
     -- (fn (x : a) => t) e = t with e for x
     beta : {ctx : List Ty} (a : Ty) {b : Ty} (t e : Term) → HasType (ctx ++ a ∷ []) t b → HasType ctx e a → Converts ctx b (term.App (term.Lam a t) e) (substituted (length ctx) e t)
     -- #i (t1, .., tn) = ti
-    part : {ctx : List Ty} {a : Ty} (i : ℕ) (types : List Ty) (ts : List Term) (t : Term) → length types ≢ 1 → HaveTypes ctx ts types → slice_get types i ≡ Some a → slice_get ts i ≡ Some t → Converts ctx a (term.Proj (i + 1) (length types) (term.Tup ts)) t
+    projection : {ctx : List Ty} {a : Ty} (i : ℕ) (types : List Ty) (ts : List Term) (t : Term) → length types ≢ 1 → HaveTypes ctx ts types → slice_get types i ≡ Some a → slice_get ts i ≡ Some t → Converts ctx a (term.Proj (i + 1) (length types) (term.Tup ts)) t
     -- fn (x : a) => f x = f
     eta : {ctx : List Ty} (a b : Ty) (f : Term) → HasType ctx f (ty.Arrow a b) → Converts ctx (ty.Arrow a b) (term.Lam a (term.App (shifted (length ctx) 1 f) (term.Var (length ctx)))) f
     -- (#1 e, .., #n e) = e
-    whole : {ctx : List Ty} (types : List Ty) (e : Term) → length types ≢ 1 → HasType ctx e (ty.Tup types) → Converts ctx (ty.Tup types) (term.Tup (projections e (length types) 1 (length types))) e
+    surjective_pairing : {ctx : List Ty} (types : List Ty) (e : Term) → length types ≢ 1 → HasType ctx e (ty.Tup types) → Converts ctx (ty.Tup types) (term.Tup (all_projections e (length types))) e
 
   -- the terms convert, one by one
   pub data ConvertEach : List Ty → List Ty → List Term → List Term → Type 0 where

@@ -1,4 +1,4 @@
 pub mod Typing
-pub mod TypeOf
 pub mod Conversion
 pub mod InversePair
+pub mod deciding

@@ -8,6 +8,7 @@
 
 mod conversion_laws;
 mod inverse_laws;
+mod long_form_laws;
 #[cfg(test)]
 mod tests;
 mod typing;
@@ -17,7 +18,13 @@ pub use conversion_laws::{
     conversion_is_an_equivalence, convertible_terms_have_the_type, forms_keep_conversion,
     shifting_keeps_conversion, substituting_all_keeps_conversion, substitution_keeps_conversion,
 };
-pub use inverse_laws::{identities_are_inverse, inverse_pairs_turn_round};
+pub use inverse_laws::{
+    conversion_keeps_inverse_pairs, identities_are_inverse, inverse_pairs_turn_round,
+};
+pub use long_form_laws::{
+    contracted_long_forms_are_short, contractions_keep_types, long_forms_keep_types,
+    typed_long_forms_project_from_no_tuple, typed_terms_have_long_forms,
+};
 pub use typing::type_of;
 pub use typing_laws::{
     shifting_keeps_types, substituting_all_keeps_types, substitution_keeps_types,

@@ -1,22 +1,22 @@
 // Terms by hand, and the types that they have.
 use crate::type_of;
 use conv_terms::Term;
-use sig_base::{Boxed, List, NoMemory};
+use sig_base::{Boxed, List, NoMemory, Row, Shared};
 use std::alloc::Global;
 use std::test::Fail;
 use type_core::{NameId, Ty, initial_names, print_type};
 
-fn int(alloc: Global) -> Ty {
-    Ty::Con(NameId(0), List::new(alloc))
+fn int() -> Ty {
+    Ty::Con(NameId(0), Row::empty())
 }
 
-fn string(alloc: Global) -> Ty {
-    Ty::Con(NameId(4), List::new(alloc))
+fn string() -> Ty {
+    Ty::Con(NameId(4), Row::empty())
 }
 
 fn arrow(alloc: Global, from: Ty, to: Ty) -> Result<Ty, NoMemory> {
-    let from = Boxed::new(alloc, from)?;
-    let to = Boxed::new(alloc, to)?;
+    let from = Shared::new(alloc, from)?;
+    let to = Shared::new(alloc, to)?;
     Ok(Ty::Arrow(from, to))
 }
 
@@ -30,6 +30,12 @@ fn two<T: Drop>(alloc: Global, x: T, y: T) -> Result<List<T>, NoMemory> {
     let mut list = one(alloc, x)?;
     list.push(y)?;
     Ok(list)
+}
+
+/// A tuple of one component, which is no type.
+fn wrapped(alloc: Global) -> Result<Ty, NoMemory> {
+    let components = Row::new(alloc, one(alloc, int())?)?;
+    Ok(Ty::Tup(components))
 }
 
 fn abstraction(alloc: Global, a: Ty, body: Term) -> Result<Term, NoMemory> {
@@ -64,7 +70,7 @@ fn has_type(alloc: Global, ctx: List<Ty>, t: Term, wanted: &[u8]) -> Result<bool
 
 /// Whether the projection from an `int * string` has this type.
 fn projects(alloc: Global, i: u32, n: u32, wanted: &[u8]) -> Result<bool, NoMemory> {
-    let pair = Ty::Tup(two(alloc, int(alloc), string(alloc))?);
+    let pair = Ty::Tup(Row::new(alloc, two(alloc, int(), string())?)?);
     has_type(alloc, one(alloc, pair)?, projection(alloc, i, n)?, wanted)
 }
 
@@ -77,7 +83,7 @@ fn variables_have_the_types_of_the_context(rt: HostRuntime) -> Result<(), Fail> 
         (2, b"".as_slice()),
     ];
     for (level, wanted) in cases {
-        let ctx = two(alloc, int(alloc), string(alloc))?;
+        let ctx = two(alloc, int(), string())?;
         assert!(rt; has_type(alloc, ctx, Term::Var(level), wanted)?);
     }
     Ok(())
@@ -86,13 +92,13 @@ fn variables_have_the_types_of_the_context(rt: HostRuntime) -> Result<(), Fail> 
 #[test]
 fn functions_have_types(rt: HostRuntime) -> Result<(), Fail> {
     let alloc = rt.alloc();
-    let identity = abstraction(alloc, int(alloc), Term::Var(0))?;
+    let identity = abstraction(alloc, int(), Term::Var(0))?;
     assert!(rt; has_type(alloc, List::new(alloc), identity, b"int -> int")?);
-    let first = abstraction(alloc, string(alloc), Term::Var(0))?;
-    let first = abstraction(alloc, int(alloc), first)?;
+    let first = abstraction(alloc, string(), Term::Var(0))?;
+    let first = abstraction(alloc, int(), first)?;
     assert!(rt; has_type(alloc, List::new(alloc), first, b"int -> string -> int")?);
     let body = Term::Tup(two(alloc, Term::Var(0), Term::Var(0))?);
-    let twice = abstraction(alloc, int(alloc), body)?;
+    let twice = abstraction(alloc, int(), body)?;
     assert!(rt; has_type(alloc, List::new(alloc), twice, b"int -> int * int")?);
     Ok(())
 }
@@ -101,12 +107,12 @@ fn functions_have_types(rt: HostRuntime) -> Result<(), Fail> {
 fn functions_are_applied_to_their_arguments(rt: HostRuntime) -> Result<(), Fail> {
     let alloc = rt.alloc();
     let itself = application(alloc, Term::Var(0), Term::Var(0))?;
-    let t = abstraction(alloc, int(alloc), itself)?;
+    let t = abstraction(alloc, int(), itself)?;
     assert!(rt; has_type(alloc, List::new(alloc), t, b"")?);
     let cases = [(1, b"string".as_slice()), (0, b"".as_slice())];
     for (argument, wanted) in cases {
-        let function = arrow(alloc, int(alloc), string(alloc))?;
-        let ctx = two(alloc, function, int(alloc))?;
+        let function = arrow(alloc, int(), string())?;
+        let ctx = two(alloc, function, int())?;
         let t = application(alloc, Term::Var(0), Term::Var(argument))?;
         assert!(rt; has_type(alloc, ctx, t, wanted)?);
     }
@@ -130,26 +136,22 @@ fn no_tuple_has_one_component(rt: HostRuntime) -> Result<(), Fail> {
     let unit = Term::Tup(List::new(alloc));
     assert!(rt; has_type(alloc, List::new(alloc), unit, b"unit")?);
     let alone = Term::Tup(one(alloc, Term::Var(0))?);
-    assert!(rt; has_type(alloc, one(alloc, int(alloc))?, alone, b"")?);
-    let wrapped = Ty::Tup(one(alloc, int(alloc))?);
+    assert!(rt; has_type(alloc, one(alloc, int())?, alone, b"")?);
     let t = projection(alloc, 1, 1)?;
-    assert!(rt; has_type(alloc, one(alloc, wrapped)?, t, b"")?);
+    assert!(rt; has_type(alloc, one(alloc, wrapped(alloc)?)?, t, b"")?);
     Ok(())
 }
 
 #[test]
 fn no_variable_has_a_type_that_is_none(rt: HostRuntime) -> Result<(), Fail> {
     let alloc = rt.alloc();
-    let wrapped = Ty::Tup(one(alloc, int(alloc))?);
-    let identity = abstraction(alloc, wrapped, Term::Var(0))?;
+    let identity = abstraction(alloc, wrapped(alloc)?, Term::Var(0))?;
     assert!(rt; has_type(alloc, List::new(alloc), identity, b"")?);
-    let wrapped = Ty::Tup(one(alloc, int(alloc))?);
-    let constant = abstraction(alloc, wrapped, Term::Tup(List::new(alloc)))?;
+    let constant = abstraction(alloc, wrapped(alloc)?, Term::Tup(List::new(alloc)))?;
     assert!(rt; has_type(alloc, List::new(alloc), constant, b"")?);
     let cases = [(0, b"".as_slice()), (1, b"int".as_slice())];
     for (level, wanted) in cases {
-        let wrapped = Ty::Tup(one(alloc, int(alloc))?);
-        let ctx = two(alloc, wrapped, int(alloc))?;
+        let ctx = two(alloc, wrapped(alloc)?, int())?;
         assert!(rt; has_type(alloc, ctx, Term::Var(level), wanted)?);
     }
     Ok(())

@@ -3,12 +3,12 @@ ghost use Rattle.std.specs.Prelude.{◌≡◌, ◌++◌, ◌∷◌, [], ◌↔�
 ghost use Rattle.type_core.specs.declared.ty.Ty.{Ty};
 ghost use Rattle.type_core.specs.declared.ty.Ty.TheVariants as ty;
 ghost use Rattle.conv_typing.specs.Typing.{HasType};
-ghost use Rattle.conv_typing.specs.TypeOf.{IsTypeOf, AreTypesOf, IsResult, if_type, function_from, tuple_of, component};
+ghost use Rattle.conv_typing.specs.deciding.TypeOf.{IsTypeOf, AreTypesOf, IsResult, if_type, function_from, tuple_of, component};
 
 use conv_terms::Term;
-use sig_base::{Boxed, List, NoMemory};
+use sig_base::{List, NoMemory, Row, Shared};
 use std::alloc::Global;
-use type_core::{Ty, copy, copy_all, is_proper_type, same};
+use type_core::{Ty, copy, copy_all, is_type, same};
 
 /// The type of the variable of this level, where the context has a type for it.
 fn variable_type(alloc: Global, ctx: &[Ty], level: u32) -> Result<Option<Ty>, NoMemory>
@@ -16,7 +16,7 @@ fn variable_type(alloc: Global, ctx: &[Ty], level: u32) -> Result<Option<Ty>, No
 {
     match ctx.get(level as usize) {
         Some(own) => {
-            if !is_proper_type(own) {
+            if !is_type(own) {
                 return Ok(None);
             }
             let own = copy(alloc, own)?;
@@ -49,14 +49,13 @@ fn leave(ctx: &mut List<Ty>)
 fn function_type(alloc: Global, a: &Ty, body: Option<Ty>) -> Result<Option<Ty>, NoMemory>
     ensures value { IfOk result (λ r. r ≡ function_from a.now body) }
 {
-    if !is_proper_type(a) {
+    if !is_type(a) {
         return Ok(None);
     }
     match body {
         Some(b) => {
-            let a = copy(alloc, a)?;
-            let a = Boxed::new(alloc, a)?;
-            let b = Boxed::new(alloc, b)?;
+            let a = Shared::new(alloc, copy(alloc, a)?)?;
+            let b = Shared::new(alloc, b)?;
             Ok(Some(Ty::Arrow(a, b)))
         }
         None => Ok(None),
@@ -64,34 +63,38 @@ fn function_type(alloc: Global, a: &Ty, body: Option<Ty>) -> Result<Option<Ty>, 
 }
 
 /// The type of an application, by those of its function and its argument.
-fn result_type(function: Option<Ty>, argument: Option<Ty>) -> Option<Ty>
-    ensures value { IsResult function argument result }
+fn result_type(
+    alloc: Global,
+    function: Option<Ty>,
+    argument: Option<Ty>,
+) -> Result<Option<Ty>, NoMemory>
+    ensures value { IfOk result (λ r. IsResult function argument r) }
 {
     match (function, argument) {
         (Some(Ty::Arrow(a, b)), Some(argument)) => {
-            if same(a.get(), &argument) {
-                Some(b.into_inner())
-            } else {
-                None
+            if !same(a.get(), &argument) {
+                return Ok(None);
             }
+            let b = copy(alloc, b.get())?;
+            Ok(Some(b))
         }
-        _ => None,
+        _ => Ok(None),
     }
 }
 
 /// The type of a tuple, by those of its components.
-fn tuple_type(components: Option<List<Ty>>) -> Option<Ty>
-    ensures value { result ≡ tuple_of components }
+fn tuple_type(alloc: Global, components: Option<List<Ty>>) -> Result<Option<Ty>, NoMemory>
+    ensures value { IfOk result (λ r. r ≡ tuple_of components) }
 {
     match components {
         Some(types) => {
             if types.len() == 1 {
-                None
-            } else {
-                Some(Ty::Tup(types))
+                return Ok(None);
             }
+            let types = Row::new(alloc, types)?;
+            Ok(Some(Ty::Tup(types)))
         }
-        None => None,
+        None => Ok(None),
     }
 }
 
@@ -127,11 +130,11 @@ fn find_type(alloc: Global, t: &Term, ctx: &mut List<Ty>) -> Result<Option<Ty>, 
         Term::App(function, argument) => {
             let function = find_type(alloc, function.get(), ctx)?;
             let argument = find_type(alloc, argument.get(), ctx)?;
-            Ok(result_type(function, argument))
+            result_type(alloc, function, argument)
         }
         Term::Tup(components) => {
             let types = find_types(alloc, components.as_slice(), ctx)?;
-            Ok(tuple_type(types))
+            tuple_type(alloc, types)
         }
         Term::Proj(i, n, e) => {
             let e = find_type(alloc, e.get(), ctx)?;

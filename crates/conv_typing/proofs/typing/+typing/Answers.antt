@@ -1,6 +1,6 @@
 use Rattle.std.proofs.Common.{refl, subst, subst₂, sym, ◌∙◌, take, add-one}
 use Rattle.conv_typing.specs.Typing.{HaveTypes}
-use Rattle.conv_typing.specs.TypeOf.{IsTypeOf}
+use Rattle.conv_typing.specs.deciding.TypeOf.{IsTypeOf}
 use Rattle.conv_typing.proofs.Deciding.{var_answer, lam_answer, app_answer, tup_answer, proj_answer, have_more, one_missing}
 use Rattle.conv_typing.proofs.typing.+typing.Goals as goal
 
