@@ -1,0 +1,16 @@
+pub mod Equations
+pub mod Pushing
+pub mod Lists
+pub mod Formed
+pub mod Congruent
+pub mod Natural
+pub mod Opened
+pub mod RoundTrip
+pub mod Ways
+pub mod Carried
+pub mod Moves
+pub mod Stepping
+pub mod Undoing
+pub mod Inverting
+pub mod PlainConverters
+pub mod Units
