@@ -1,5 +1,2 @@
-pub mod Functions
-pub mod CoordinateTypes
-pub mod SplitJoin
-pub mod Moving
-pub mod PlainConverter
+pub mod ShortConverter
+pub mod direct

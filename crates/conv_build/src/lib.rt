@@ -1,23 +1,26 @@
-//! Converters between types whose coordinates are paired.
+//! Converters between types whose coordinates are paired, in the form in which they are printed.
 //!
-//! `redex_form` gives the plain converter of a pairing: it splits its argument into terms for the coordinates of the
-//! one type, moves these along the pairing, and joins them at the other type.
+//! `build` gives both converters of a pairing: each is what the long form of the plain converter contracts to, and they
+//! are an inverse pair of short normal terms. `redex_form`, the plain converter itself, is conv_plain's. What stands in
+//! `specs/direct` says how the long form follows the pairing; it serves laws and private functions alone.
 #![tactic(auto)]
 
-mod functions;
+mod building;
+mod converters;
+mod cutting;
+mod emitting;
 mod laws;
-mod moving;
-mod plain;
-mod room;
-mod split_join;
+mod leaves;
+mod numbers;
+mod reference;
+mod step;
+mod steps;
 #[cfg(test)]
 mod tests;
-mod types;
 
+pub use conv_plain::redex_form;
+pub use converters::{Converters, build};
 pub use laws::{
-    coordinates_have_types, moving_back_is_moving_along_the_inverse,
-    moving_there_and_back_undoes_itself, places_have_the_terms_of_their_entries,
-    plain_converters_are_inverse, splitting_and_joining_undo_each_other,
-    splitting_joining_and_moving_keep_types,
+    contracted_direct_converters_are_short, coordinates_at_arguments_in_two_passes,
+    direct_converters_are_long_forms, joining_in_two_passes, short_converters_are_inverse,
 };
-pub use plain::redex_form;

@@ -1,98 +1,116 @@
-// Types and pairings by hand, and the converters that they give.
-ghost use Rattle.std.specs.Prelude.{◌≡◌, []};
-ghost use Rattle.type_core.specs.declared.ty.Ty.TheVariants as ty;
+// Types in postfix notation, pairings by hand, and the converters that they give.
+ghost use Rattle.std.specs.Prelude.{◌≤◌, IfOk};
+ghost use Rattle.iso_normal.specs.PairTrees.{IsPermuted};
 
-use crate::plain::converter;
-use crate::redex_form;
+use crate::converters::contracted;
 use conv_terms::Term;
 use iso_normal::{Entry, PairTree};
-use sig_base::{Boxed, List, NoMemory, Text};
+use sig_base::{List, NoMemory, Row, Shared, Text};
 use std::alloc::Global;
 use std::test::Fail;
 use type_core::{NameId, Ty, push_decimal};
 
-fn named(alloc: Global, name: u32) -> Ty {
-    Ty::Con(NameId(name), List::new(alloc))
-}
-
-fn arrow(alloc: Global, from: Ty, to: Ty) -> Result<Ty, NoMemory> {
-    let from = Boxed::new(alloc, from)?;
-    let to = Boxed::new(alloc, to)?;
-    Ok(Ty::Arrow(from, to))
-}
-
-fn pair(alloc: Global, first: Ty, second: Ty) -> Result<Ty, NoMemory> {
-    let mut components = List::new(alloc);
-    components.push(first)?;
-    components.push(second)?;
-    Ok(Ty::Tup(components))
-}
-
-fn unit(alloc: Global) -> Ty
-    ensures value { result ≡ ty.Tup [] }
-{
-    Ty::Tup(List::new(alloc))
-}
-
-/// The pairing of coordinates without arguments that has these places.
-fn flat(alloc: Global, places: &[u32]) -> Result<PairTree, NoMemory> {
-    let mut entries = List::new(alloc);
-    for place in places {
-        let args = PairTree {
-            entries: List::new(alloc),
-        };
-        entries.push(Entry {
-            place: *place,
-            args,
-        })?;
+fn top(stack: &mut List<Ty>) -> Ty {
+    match stack.pop() {
+        Some(t) => t,
+        None => Ty::Tup(Row::empty()),
     }
-    Ok(PairTree { entries })
 }
 
-/// The pairing whose entries have these places, each with arguments at those.
-fn nested(alloc: Global, places: &[u32], inner: &[u32]) -> Result<PairTree, NoMemory> {
-    let mut entries = List::new(alloc);
-    for place in places {
-        entries.push(Entry {
-            place: *place,
-            args: flat(alloc, inner)?,
-        })?;
+fn step(alloc: Global, stack: &mut List<Ty>, byte: u8) -> Result<Ty, NoMemory> {
+    match byte {
+        b'1' => Ok(Ty::Tup(Row::empty())),
+        b'*' => {
+            let second = top(stack);
+            let mut both = List::new(alloc);
+            both.push(top(stack))?;
+            both.push(second)?;
+            Ok(Ty::Tup(Row::new(alloc, both)?))
+        }
+        b'>' => {
+            let to = Shared::new(alloc, top(stack))?;
+            let from = Shared::new(alloc, top(stack))?;
+            Ok(Ty::Arrow(from, to))
+        }
+        letter => Ok(Ty::Con(NameId(u32::from(letter)), Row::empty())),
     }
-    Ok(PairTree { entries })
 }
 
-fn push(out: &mut Text, text: &[u8]) -> Result<(), NoMemory> {
+fn read(alloc: Global, text: &[u8]) -> Result<Ty, NoMemory> {
+    let mut stack = List::new(alloc);
     for byte in text {
-        out.push(*byte)?;
+        let t = step(alloc, &mut stack, *byte)?;
+        stack.push(t)?;
     }
-    Ok(())
+    Ok(top(&mut stack))
 }
 
-/// Writes `\t` for an abstraction, `(f e)`, `[t,t]`, `#i:e`, and a variable's level.
+fn none(alloc: Global) -> PairTree
+    ensures permuted { IsPermuted result }
+{
+    PairTree {
+        entries: List::new(alloc),
+    }
+}
+
+fn one(alloc: Global, args: PairTree) -> Result<PairTree, NoMemory>
+    requires inner { IsPermuted args }
+    ensures permuted { IfOk result IsPermuted }
+{
+    let mut entries = List::new(alloc);
+    entries.push(Entry { place: 0, args })?;
+    Ok(PairTree { entries })
+}
+
+fn two(alloc: Global, first: u32, a: PairTree, b: PairTree) -> Result<PairTree, NoMemory>
+    requires low { first ≤ 1 }
+    requires left { IsPermuted a }
+    requires right { IsPermuted b }
+    ensures permuted { IfOk result IsPermuted }
+{
+    let mut entries = List::new(alloc);
+    entries.push(Entry {
+        place: first,
+        args: a,
+    })?;
+    entries.push(Entry {
+        place: 1 - first,
+        args: b,
+    })?;
+    Ok(PairTree { entries })
+}
+
+fn flat(alloc: Global, first: u32) -> Result<PairTree, NoMemory>
+    requires low { first ≤ 1 }
+    ensures permuted { IfOk result IsPermuted }
+{
+    two(alloc, first, none(alloc), none(alloc))
+}
+
 #[cycle(show)]
 fn show(alloc: Global, t: &Term, out: &mut Text) -> Result<(), NoMemory> {
     match t {
         Term::Var(n) => push_decimal(alloc, out, u64::from(*n)),
         Term::Lam(_, body) => {
-            push(out, b"\\")?;
+            out.push(b'\\')?;
             show(alloc, body.get(), out)
         }
         Term::App(function, argument) => {
-            push(out, b"(")?;
+            out.push(b'(')?;
             show(alloc, function.get(), out)?;
-            push(out, b" ")?;
+            out.push(b' ')?;
             show(alloc, argument.get(), out)?;
-            push(out, b")")
+            out.push(b')')
         }
         Term::Tup(components) => {
-            push(out, b"[")?;
+            out.push(b'[')?;
             show_all(alloc, components.as_slice(), out)?;
-            push(out, b"]")
+            out.push(b']')
         }
         Term::Proj(i, _, e) => {
-            push(out, b"#")?;
+            out.push(b'#')?;
             push_decimal(alloc, out, u64::from(*i))?;
-            push(out, b":")?;
+            out.push(b':')?;
             show(alloc, e.get(), out)
         }
     }
@@ -102,74 +120,61 @@ fn show(alloc: Global, t: &Term, out: &mut Text) -> Result<(), NoMemory> {
 fn show_all(alloc: Global, terms: &[Term], out: &mut Text) -> Result<(), NoMemory> {
     for t in terms {
         show(alloc, t, out)?;
-        push(out, b",")?;
+        out.push(b',')?;
     }
     Ok(())
 }
 
-fn is_shown(alloc: Global, t: &Term, wanted: &[u8]) -> Result<bool, NoMemory> {
-    let mut shown = Text::new(alloc);
-    show(alloc, t, &mut shown)?;
-    Ok(shown.as_slice() == wanted)
+/// Whether these are the converters of the two types in postfix notation.
+fn converts(
+    alloc: Global,
+    a: &[u8],
+    b: &[u8],
+    p: &PairTree,
+    wanted: &[u8],
+) -> Result<bool, NoMemory>
+    requires permuted { IsPermuted p.now }
+{
+    let a = read(alloc, a)?;
+    let b = read(alloc, b)?;
+    let made = contracted(alloc, &a, &b, p)?;
+    let mut text = Text::new(alloc);
+    show(alloc, &made.to, &mut text)?;
+    text.push(b'/')?;
+    show(alloc, &made.from, &mut text)?;
+    Ok(text.as_slice() == wanted)
 }
 
 #[test]
-fn units_are_converted(rt: HostRuntime) -> Result<(), Fail> {
+fn units_are_given_and_taken(rt: HostRuntime) -> Result<(), Fail> {
     let alloc = rt.alloc();
-    let none = PairTree {
-        entries: List::new(alloc),
-    };
-    let t = redex_form(alloc, &unit(alloc), &unit(alloc), &none)?;
-    assert!(rt; is_shown(alloc, &t, b"\\[]")?);
+    let p = one(alloc, none(alloc))?;
+    assert!(rt; converts(alloc, b"1I>", b"I", &p, b"\\(0 [])/\\\\0")?);
+    assert!(rt; converts(alloc, b"1I>", b"1I>", &p, b"\\\\(0 [])/\\\\(0 [])")?);
+    assert!(rt; converts(alloc, b"A1>", b"1", &none(alloc), b"\\[]/\\\\[]")?);
     Ok(())
 }
 
 #[test]
-fn arguments_of_unit_are_given_and_taken(rt: HostRuntime) -> Result<(), Fail> {
+fn pairs_are_left_where_they_stay(rt: HostRuntime) -> Result<(), Fail> {
     let alloc = rt.alloc();
-    let int = named(alloc, 0);
-    let delayed = arrow(alloc, unit(alloc), named(alloc, 0))?;
-    let p = flat(alloc, &[0])?;
-    assert!(rt; is_shown(alloc, &converter(alloc, &int, &int, &p)?, b"\\0")?);
-    assert!(rt; is_shown(alloc, &converter(alloc, &delayed, &int, &p)?, b"\\(0 [])")?);
-    assert!(rt; is_shown(alloc, &converter(alloc, &int, &delayed, &p)?, b"\\\\0")?);
-    Ok(())
-}
-
-#[test]
-fn components_change_places(rt: HostRuntime) -> Result<(), Fail> {
-    let alloc = rt.alloc();
-    let a = pair(alloc, named(alloc, 0), named(alloc, 4))?;
-    let b = pair(alloc, named(alloc, 4), named(alloc, 0))?;
-    let p = flat(alloc, &[1, 0])?;
-    assert!(rt; is_shown(alloc, &converter(alloc, &a, &b, &p)?, b"\\[#2:0,#1:0,]")?);
+    let p = two(alloc, 0, flat(alloc, 0)?, flat(alloc, 0)?)?;
+    assert!(rt; converts(alloc, b"II*II*>", b"II*II*>", &p, b"\\0/\\0")?);
     Ok(())
 }
 
 #[test]
 fn arguments_change_places(rt: HostRuntime) -> Result<(), Fail> {
     let alloc = rt.alloc();
-    let curried = arrow(alloc, named(alloc, 4), named(alloc, 7))?;
-    let a = arrow(alloc, named(alloc, 0), curried)?;
-    let from = pair(alloc, named(alloc, 4), named(alloc, 0))?;
-    let b = arrow(alloc, from, named(alloc, 7))?;
-    let p = nested(alloc, &[0], &[1, 0])?;
-    let t = converter(alloc, &a, &b, &p)?;
-    assert!(rt; is_shown(alloc, &t, b"\\\\((\\\\((\\\\((0 4) 5) 3) 2) #1:1) #2:1)")?);
-    Ok(())
-}
-
-/// The plain converter of a type is full of redexes, also where the identity would do.
-#[test]
-fn plain_converters_are_not_short(rt: HostRuntime) -> Result<(), Fail> {
-    let alloc = rt.alloc();
-    let from = pair(alloc, named(alloc, 0), named(alloc, 0))?;
-    let to = pair(alloc, named(alloc, 0), named(alloc, 0))?;
-    let a = arrow(alloc, from, to)?;
-    let p = nested(alloc, &[0, 1], &[0, 1])?;
-    let t = converter(alloc, &a, &a, &p)?;
-    let wanted =
-        b"\\\\[((\\\\((\\\\#1:(0 [4,5,]) 2) 3) #1:1) #2:1),((\\\\((\\\\#2:(0 [4,5,]) 2) 3) #1:1) #2:1),]";
-    assert!(rt; is_shown(alloc, &t, wanted)?);
+    let p = one(alloc, flat(alloc, 1)?)?;
+    assert!(rt;
+        converts(
+            alloc,
+            b"ISB>>",
+            b"SI*B>",
+            &p,
+            b"\\\\((0 #2:1) #1:1)/\\\\\\(0 [2,1,])"
+        )?
+    );
     Ok(())
 }

@@ -1,6 +1,0 @@
-use Rattle.std.proofs.Common.{◌≡◌, drop}
-use Rattle.conv_build.specs.Functions.{applied}
-use Rattle.conv_build.proofs.functions.applied.Given as goal
-
-abbrev pub invariant-loop-argument : goal.invariant-loop-argument
-invariant-loop-argument l = applied l.all (drop l.argument-index l.arguments) ≡ applied l.fn.f l.arguments

@@ -1,7 +1,0 @@
-use Rattle.conv_build.specs.CoordinateTypes.{coordinate_types}
-use Rattle.conv_build.proofs.Formed.{coordinates_typed, formed}
-use Rattle.conv_build.proofs.Lists.{each_type}
-use Rattle.conv_build.proofs.laws.coordinates_have_types.Goals as goal
-
-pub returns : goal.returns
-returns c = record { law = λ a is. each_type (coordinate_types a) (coordinates_typed (formed a is)) }

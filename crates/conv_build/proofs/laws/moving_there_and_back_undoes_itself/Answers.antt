@@ -1,5 +1,0 @@
-use Rattle.conv_build.proofs.PlainConverters.{there_and_back}
-use Rattle.conv_build.proofs.laws.moving_there_and_back_undoes_itself.Goals as goal
-
-pub returns : goal.returns
-returns c = record { law = there_and_back }
