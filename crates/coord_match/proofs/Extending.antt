@@ -1,12 +1,12 @@
 -- Bindings of some variables are those of a renaming of all.
-use Rattle.std.proofs.Common.{◌≡◌, ℕ, ◌+◌, ◌<◌, ◌≤◌, ◌||◌, Bool, true, false, true≢false, if◌then◌else◌, List, [], ◌∷◌, max, Option, Some, None, refl, sym, ap, ◌∙◌, subst, arith}
+use Rattle.std.proofs.Common.{◌≡◌, ℕ, ◌+◌, ◌<◌, ◌≤◌, Bool, true, false, if◌then◌else◌, [], ◌∷◌, max, Option, Some, None, refl, sym, ap, ◌∙◌, arith}
 use Rattle.type_core.specs.declared.ty.VarId.{VarId}
-use Rattle.type_core.specs.Renaming.{IsOneToOne, KeepsMarks, Renaming}
-use Rattle.type_core.specs.Variables.{occurs, same_variable}
-use Rattle.type_core.proofs.Places.{occurs_here, occurs_later, same_is, variable_eq}
+use Rattle.type_core.specs.Renaming.{Renaming}
+use Rattle.type_core.specs.Variables.{same_variable}
+use Rattle.type_core.proofs.Places.{same_is, variable_eq}
 use Rattle.coord_match.specs.declared.bindings.Bound.{Bound}
-use Rattle.coord_match.specs.Bindings.{AreMatching, Allows, Bindings, IsIn, at, past}
-use Rattle.coord_match.specs.Names.{partner}
+use Rattle.coord_match.specs.search.Bindings.{AreMatching, Allows, Bindings, IsIn, at, past}
+use Rattle.coord_match.specs.search.Partners.{partner}
 use Rattle.coord_match.proofs.Meeting.{differs}
 
 -- what the look-up gives
@@ -79,47 +79,3 @@ module _ (s : Bindings) (m : AreMatching s) (k : ℕ) (below : AreBelow k s) whe
     keeps_marks = λ v. marked v (partner_is v s);
     obeys = λ b i. obeyed b i (partner_is b.from s);
   }
-
--- what a renaming makes of some variables, as bindings
-module _ (r : Renaming) where
-  abbrev pub told_of : List VarId → Bindings
-  told_of [] = []
-  told_of (v ∷ vs) = record { from = v; to = r v } ∷ told_of vs
-
-  record IsTold (vs : List VarId) (b : Bound) : Type 0 where
-    occurs_in : occurs b.from vs ≡ true
-    renamed_to : r b.from ≡ b.to
-
-  told_back : (vs : List VarId) {b : Bound} → IsIn b (told_of vs) → IsTold vs b
-  told_back [] i = elim i [ ]
-  told_back (v ∷ vs) (at _) = record { occurs_in = occurs_here v vs; renamed_to = refl }
-  told_back (v ∷ vs) (past _ i) = let t = told_back vs i in record { occurs_in = occurs_later _ v vs t.occurs_in; renamed_to = t.renamed_to }
-
-  told_matching : (vs : List VarId) → IsOneToOne r vs → KeepsMarks r vs → AreMatching (told_of vs)
-  told_matching vs one marks = record {
-    one_partner = λ b c i j e. sym (told_back vs i).renamed_to ∙ ap r e ∙ (told_back vs j).renamed_to;
-    one_source = λ b c i j e. one b.from c.from (told_back vs i).occurs_in (told_back vs j).occurs_in ((told_back vs i).renamed_to ∙ e ∙ sym (told_back vs j).renamed_to);
-    marks = λ b i. ap (λ (x : VarId). x.eq) (sym (told_back vs i).renamed_to) ∙ marks b.from (told_back vs i).occurs_in;
-  }
-
-  told_at : (v w : VarId) (vs : List VarId) → (occurs v vs ≡ true → IsIn (record { from = v; to = r v }) (told_of vs)) → (x : Bool) → same_variable v w ≡ x → (x || occurs v vs) ≡ true → IsIn (record { from = v; to = r v }) (told_of (w ∷ vs))
-  told_at v w vs rest true f e = subst (λ u. IsIn (record { from = v; to = r v }) (record { from = u; to = r u } ∷ told_of vs)) (same_is v w f) (at (told_of vs))
-  told_at v w vs rest false f e = past _ (rest e)
-
-  is_told : (v : VarId) (vs : List VarId) → occurs v vs ≡ true → IsIn (record { from = v; to = r v }) (told_of vs)
-  is_told v [] e = absurd (true≢false (sym e))
-  is_told v (w ∷ vs) e = told_at v w vs (is_told v vs) (same_variable v w) refl e
-
-  -- it is that of a renaming of all variables
-  abbrev pub widened : List VarId → Renaming
-  widened vs = extended (after_all (told_of vs)) (told_of vs)
-
-  pub widened_allowed : (vs : List VarId) → IsOneToOne r vs → KeepsMarks r vs → Allows [] (widened vs)
-  widened_allowed vs one marks =
-      let a = extended_allowed (told_of vs) (told_matching vs one marks) (after_all (told_of vs)) (all_below (told_of vs)) in
-      record { one_to_one = a.one_to_one; keeps_marks = a.keeps_marks; obeys = λ b i. elim i [ ] }
-
-  pub widened_alike : (vs : List VarId) → IsOneToOne r vs → KeepsMarks r vs → (v : VarId) → occurs v vs ≡ true → widened vs v ≡ r v
-  widened_alike vs one marks v e =
-      let a = extended_allowed (told_of vs) (told_matching vs one marks) (after_all (told_of vs)) (all_below (told_of vs)) in
-      a.obeys (record { from = v; to = r v }) (is_told v vs e)

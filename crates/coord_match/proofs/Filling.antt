@@ -15,7 +15,7 @@ use Rattle.iso_normal.specs.Pairings as pairing
 use Rattle.iso_normal.specs.Pairings.{PairEach, Pairs, pairs}
 use Rattle.iso_normal.proofs.TreeParts.{entry_args, entry_place, tree_entries}
 use Rattle.iso_normal.proofs.Distinct.{AreDifferent, IsNone, different, distinct}
-use Rattle.coord_match.specs.Tasks.{AreFree, Fills, Goal, IsFree, fill, words}
+use Rattle.coord_match.specs.search.Tasks.{AreFree, Fills, Goal, IsFree, fill, words}
 
 -- the word of a pairing is that of its entries
 words_are : (es : List Entry) → concatenated (map (fold-Entry (List ℕ) (List ℕ) word_entry_step word_step) es) ≡ words es

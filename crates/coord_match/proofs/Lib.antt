@@ -3,7 +3,7 @@ pub mod Unequal
 pub mod Extending
 pub mod Filling
 pub mod Weights
-pub mod Printed
+pub mod KeptFingerprints
 pub mod Searched
 pub mod Swapped
 pub mod SameCoordinates
@@ -11,4 +11,7 @@ pub mod Tasked
 pub mod Gathered
 pub mod Named
 pub mod Whole
+pub mod Consistent
+pub mod Identical
+pub mod OneLeast
 pub mod MarksByNumber

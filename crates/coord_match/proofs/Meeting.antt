@@ -16,7 +16,7 @@ use Rattle.type_core.specs.Variables.{same_mark, same_variable}
 use Rattle.type_core.proofs.Places.{same_is, same_itself}
 use Rattle.type_core.proofs.Renamed.{field_eq}
 use Rattle.coord_match.specs.declared.bindings.Bound.{Bound}
-use Rattle.coord_match.specs.Bindings.{AreMatching, Allows, Bindings, IsIn, all_met, and_then, at, bind, by_sides, met, met_field, met_field_step, met_layer, met_step, past, when}
+use Rattle.coord_match.specs.search.Bindings.{AreMatching, Allows, Bindings, IsIn, all_met, and_then, at, bind, by_sides, met, met_field, met_field_step, met_layer, met_step, past, when}
 
 -- now has the bindings of s, and those that P asks for
 pub record Narrows (s : Bindings) (P : Renaming → Type 0) (now : Bindings) : Type 0 where
@@ -60,15 +60,15 @@ nothing_to_do : {s : Bindings} {P : Renaming → Type 0} → AreMatching s → (
 nothing_to_do m p = narrowed (record { matching = m; told = λ r a. (a, p r a); kept = λ r a q. a })
 
 -- one binding more
-in_front : {b : Bound} {s : Bindings} (t : Bindings) → IsIn b s → IsIn b (s ++ t)
+pub in_front : {b : Bound} {s : Bindings} (t : Bindings) → IsIn b s → IsIn b (s ++ t)
 in_front t (at rest) = at (rest ++ t)
 in_front t (past c i) = past c (in_front t i)
 
-in_end : (b : Bound) (s : Bindings) → IsIn b (s ++ b ∷ [])
+pub in_end : (b : Bound) (s : Bindings) → IsIn b (s ++ b ∷ [])
 in_end b [] = at []
 in_end b (c ∷ s) = past c (in_end b s)
 
-was_in : {b c : Bound} (s : Bindings) → IsIn c (s ++ b ∷ []) → IsIn c s ⊎ (c ≡ b)
+pub was_in : {b c : Bound} (s : Bindings) → IsIn c (s ++ b ∷ []) → IsIn c s ⊎ (c ≡ b)
 was_in [] (at rest) = inr refl
 was_in [] (past c i) = elim i [ ]
 was_in (d ∷ s) (at rest) = inl (at s)

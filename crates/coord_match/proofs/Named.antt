@@ -6,8 +6,9 @@ use Rattle.type_core.specs.declared.ty.VarId.{VarId}
 use Rattle.type_core.specs.Renaming.{Renaming}
 use Rattle.type_core.specs.Variables.{occurs, same_variable}
 use Rattle.type_core.proofs.Places.{occurs_here, occurs_later, same_is}
-use Rattle.coord_match.specs.Bindings.{Bindings}
-use Rattle.coord_match.specs.Names.{HaveOneMark, Tells, number_bound, partner, partner_of_number}
+use Rattle.coord_match.specs.search.Bindings.{Bindings}
+use Rattle.coord_match.specs.Names.{HaveOneMark, Tells, number_bound}
+use Rattle.coord_match.specs.search.Partners.{partner, partner_of_number}
 
 below_first : (v w : VarId) (n : ℕ) (x : Bool) → same_variable v w ≡ x → (rest : Bool) → (rest ≡ true → v.n < n) → (x || rest) ≡ true → v.n < max (w.n + 1) n
 below_first v w n true e rest later o = omega (arith, ap (λ (u : VarId). u.n) (same_is v w e))

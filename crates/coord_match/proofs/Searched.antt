@@ -6,13 +6,13 @@ use Rattle.type_core.specs.declared.ty.Ty.{Ty}
 use Rattle.type_core.specs.Coordinates.{arguments_of, head_of}
 use Rattle.type_core.specs.Renaming.{Renaming, renamed}
 use Rattle.iso_normal.proofs.Permutations.{some_injective}
-use Rattle.coord_match.specs.Bindings.{AreMatching, Allows, Bindings, met}
+use Rattle.coord_match.specs.search.Bindings.{AreMatching, Allows, Bindings, met}
 use Rattle.iso_normal.specs.Consistency.{Turns}
-use Rattle.coord_match.specs.LeastPairing.{IsNotAfter, ends, less, same}
-use Rattle.coord_match.specs.Tasks.{Filling, FillingAt, Fills, Goal, HasNone, IsBest, IsFree, filled}
+use Rattle.iso_normal.specs.WordOrder.{IsNotAfter, ends, less, same}
+use Rattle.coord_match.specs.search.Tasks.{Filling, FillingAt, Fills, Goal, HasNone, IsBest, IsFree, filled}
 use Rattle.coord_match.proofs.Meeting.{Narrows, Outcome, met_right, narrowed, refused}
-use Rattle.coord_match.specs.Prints.{mixed, print_of}
-use Rattle.coord_match.proofs.Printed.{print_opened, print_turned, sum_filled}
+use Rattle.coord_match.specs.search.Fingerprints.{mixed, fingerprint_of}
+use Rattle.coord_match.proofs.KeptFingerprints.{fingerprint_opened, fingerprint_turned, sum_filled}
 use Rattle.coord_match.proofs.Filling.{AllFree, Step, none_is_taken, past_end, step, stepped, with_end}
 
 -- nothing is left
@@ -67,11 +67,11 @@ module _ (s : Bindings) (matching : AreMatching s) (goal : Goal) (goals : List G
   pub none_where_more : (length (arguments_of a) ≡ length (arguments_of b) → ⊥) → HasNone s (FillingAt goal goals k)
   none_where_more d r al w f = d (step_at f).as_many
 
-  pub none_where_unlike : (print_of a ≡ print_of b → ⊥) → HasNone s (FillingAt goal goals k)
+  pub none_where_unlike : (fingerprint_of a ≡ fingerprint_of b → ⊥) → HasNone s (FillingAt goal goals k)
   none_where_unlike d r al w f =
       let st = step_at f in
-      let arguments = sum_filled (print_turned r al.keeps_marks) (st.fills (replicate (length (arguments_of b)) false) (none_is_taken (length (arguments_of b)))) st.as_many in
-      d (print_opened a ∙ ap₂ (λ x y. mixed x (y % 4294967296)) (print_turned r al.keeps_marks (head_of a) (head_of b) st.heads) arguments ∙ sym (print_opened b))
+      let arguments = sum_filled (fingerprint_turned r al.keeps_marks) (st.fills (replicate (length (arguments_of b)) false) (none_is_taken (length (arguments_of b)))) st.as_many in
+      d (fingerprint_opened a ∙ ap₂ (λ x y. mixed x (y % 4294967296)) (fingerprint_turned r al.keeps_marks (head_of a) (head_of b) st.heads) arguments ∙ sym (fingerprint_opened b))
 
   pub none_where_apart : met (head_of a) (head_of b) s ≡ None → HasNone s (FillingAt goal goals k)
   none_where_apart e r al w f = refusal_of (met_right (head_of a) (head_of b) s matching) e r al (step_at f).heads

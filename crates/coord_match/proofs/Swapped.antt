@@ -10,9 +10,9 @@ use Rattle.iso_normal.specs.PairTrees.{args_of, entry, place_of, places_of, word
 use Rattle.iso_normal.specs.Pairings as pairing
 use Rattle.iso_normal.specs.Pairings.{PairEach, Pairs}
 use Rattle.iso_normal.proofs.Distinct.{AreDifferent, IsNone, different, distinct}
-use Rattle.coord_match.specs.Bindings.{Bindings}
+use Rattle.coord_match.specs.search.Bindings.{Bindings}
 use Rattle.iso_normal.specs.Consistency.{Turns}
-use Rattle.coord_match.specs.Tasks.{AreFree, FillingAt, Goal, HasNone, IsFree, fill, words}
+use Rattle.coord_match.specs.search.Tasks.{AreFree, FillingAt, Goal, HasNone, IsFree, fill, words}
 use Rattle.iso_normal.proofs.TreeParts.{entry_args, entry_place}
 
 module _ (p q : ℕ) where

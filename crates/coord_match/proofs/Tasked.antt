@@ -9,11 +9,11 @@ use Rattle.std.proofs.lemmas.Option.{slice_get-get_or}
 use Rattle.type_core.specs.declared.coordinate.Coordinate.{Coordinate}
 use Rattle.type_core.specs.Coordinates.{arguments_of, head_of}
 use Rattle.coord_match.specs.declared.search.Task.{Task}
-use Rattle.coord_match.specs.Bindings.{AreMatching, Bindings, met}
+use Rattle.coord_match.specs.search.Bindings.{AreMatching, Bindings, met}
 use Rattle.iso_normal.specs.Shapes.{nodes_of}
 use Rattle.iso_normal.proofs.ReadWords.{nodes_more}
-use Rattle.coord_match.specs.Tasks.{Filling, FillingAt, Goal, HasNone, IsBest, IsFree, IsSound, goal_of, goals_of}
-use Rattle.coord_match.specs.Prints.{print_of}
+use Rattle.coord_match.specs.search.Tasks.{Filling, FillingAt, Goal, HasNone, IsBest, IsFree, IsSound, goal_of, goals_of}
+use Rattle.coord_match.specs.search.Fingerprints.{fingerprint_of}
 use Rattle.coord_match.proofs.Filling.{none_is_taken}
 use Rattle.coord_match.proofs.Searched.{NoneBefore, best_at, best_past_end, best_then, mid_matching, none_at_all, none_at_next, none_past_end, none_then, none_where_apart, none_where_more, none_where_taken, none_where_unlike, nothing, then_goals}
 use Rattle.coord_match.proofs.Swapped.{none_at_same}
@@ -121,7 +121,7 @@ module _ (s : Bindings) (m : AreMatching s) (top : Task) (ts : List Task) (more 
   pub none_if_more : (length (arguments_of a) ≡ length (arguments_of b) → ⊥) → HasNone s (FillingAt (goal_of top) (goals_of ts) k)
   none_if_more d = none_where_more s m (goal_of top) (goals_of ts) a _ next k b stands d
 
-  pub none_if_unlike : (print_of a ≡ print_of b → ⊥) → HasNone s (FillingAt (goal_of top) (goals_of ts) k)
+  pub none_if_unlike : (fingerprint_of a ≡ fingerprint_of b → ⊥) → HasNone s (FillingAt (goal_of top) (goals_of ts) k)
   none_if_unlike d = none_where_unlike s m (goal_of top) (goals_of ts) a _ next k b stands d
 
   pub none_if_apart : met (head_of a) (head_of b) s ≡ None → HasNone s (FillingAt (goal_of top) (goals_of ts) k)

@@ -1,6 +1,6 @@
 -- Lists of different lengths don't meet.
 use Rattle.std.proofs.Common.{◌≡◌, List, [], ◌∷◌, Option, Some, None, map, length, refl, ap, suc}
-use Rattle.coord_match.specs.Bindings.{Bindings, all_met, and_then}
+use Rattle.coord_match.specs.search.Bindings.{Bindings, all_met, and_then}
 
 after_none : (o : Option Bindings) (next : Bindings → Option Bindings) → ((s : Bindings) → None ≡ next s) → None ≡ and_then o next
 after_none None next h = refl

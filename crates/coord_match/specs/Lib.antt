@@ -1,5 +1,3 @@
 pub mod LeastPairing
-pub mod Bindings
 pub mod Names
-pub mod Tasks
-pub mod Prints
+pub mod search

@@ -1,12 +1,11 @@
 -- A renaming as a list: for each variable number its partner.
-use Rattle.std.specs.Prelude.{◌≡◌, ◌≢◌, ℕ, ◌+◌, ◌<◌, ◌==◌, IsTrue, if◌then◌else◌, List, [], ◌∷◌, Option, Some, None, length, max, slice_get}
+use Rattle.std.specs.Prelude.{◌≡◌, ◌≢◌, ℕ, ◌+◌, ◌<◌, IsTrue, List, [], ◌∷◌, Option, Some, None, length, max, slice_get}
 use Rattle.type_core.specs.declared.coordinate.Coordinate.{Coordinate}
 use Rattle.type_core.specs.declared.ty.VarId.{VarId}
 use Rattle.type_core.specs.Renaming.{Renaming}
-use Rattle.type_core.specs.Variables.{occurs, same_variable}
+use Rattle.type_core.specs.Variables.{occurs}
 use Rattle.iso_normal.specs.declared.pair_tree.PairTree.{PairTree}
 use Rattle.iso_normal.specs.PairTrees.{word_of}
-use Rattle.coord_match.specs.Bindings.{Bindings}
 use Rattle.iso_normal.specs.Consistency.{variables_among}
 use Rattle.coord_match.specs.LeastPairing.{IsLeast}
 
@@ -29,13 +28,3 @@ pub record Tells (names : List (Option VarId)) (r : Renaming) (vs : List VarId) 
 -- the word is that of the least consistent pairing of a with b, and the names are its renaming
 abbrev pub IsFirst : List Coordinate → List Coordinate → List ℕ → List (Option VarId) → Type 0
 IsFirst a b word names = (r : Renaming) × (p : PairTree) × IsLeast r a b p × (word ≡ word_of p) × Tells names r (variables_among a)
-
--- the variable to which v is bound
-abbrev pub partner : VarId → Bindings → Option VarId
-partner v [] = None
-partner v (b ∷ s) = if same_variable b.from v then Some b.to else partner v s
-
--- the variable to which the one of this number is bound
-abbrev pub partner_of_number : ℕ → List VarId → Bindings → Option VarId
-partner_of_number n [] s = None
-partner_of_number n (v ∷ vs) s = if v.n == n then partner v s else partner_of_number n vs s

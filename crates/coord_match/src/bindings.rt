@@ -1,8 +1,8 @@
 // Variables that are bound to one another, and types that meet.
 ghost use Rattle.std.specs.Prelude.{◌≡◌, Some, IfOk, OnOk, map};
 ghost use Rattle.type_core.specs.Variables.{same_variable};
-ghost use Rattle.coord_match.specs.Bindings as spec;
-ghost use Rattle.coord_match.specs.Bindings.{IsBefore, all_met, met, met_field, when};
+ghost use Rattle.coord_match.specs.search.Bindings as spec;
+ghost use Rattle.coord_match.specs.search.Bindings.{IsBefore, all_met, met, met_field, when};
 
 use sig_base::{List, NoMemory};
 use type_core::{Field, Ty, VarId};

@@ -1,10 +1,11 @@
 // The variables of coordinates, and their partners as a list.
-ghost use Rattle.std.specs.Prelude.{◌≡◌, ◌≤◌, ◌<◌, ◌++◌, Some, ℕ, length, map, slice_get, IfOk, OnOk};
+ghost use Rattle.std.specs.Prelude.{◌≡◌, ◌≤◌, ◌<◌, ◌++◌, [], Some, ℕ, length, map, slice_get, IfOk, OnOk};
 ghost use Rattle.type_core.specs.Lists.{concatenated};
 ghost use Rattle.type_core.specs.Variables.{field_variables, same_variable, variables};
-ghost use Rattle.coord_match.specs.Bindings as bindings;
+ghost use Rattle.coord_match.specs.search.Bindings as bindings;
 ghost use Rattle.iso_normal.specs.Consistency.{coordinate_variables, variables_among};
-ghost use Rattle.coord_match.specs.Names as spec;
+ghost use Rattle.coord_match.specs.Names.{number_bound};
+ghost use Rattle.coord_match.specs.search.Partners as spec;
 
 use crate::bindings::{Bound, is_same};
 use sig_base::{List, NoMemory};
@@ -65,7 +66,7 @@ pub fn gather_coordinates(all: &mut List<VarId>, coordinates: &[Coordinate]) -> 
 }
 
 fn number_bound(variables: &[VarId]) -> usize
-    ensures value { result ≡ spec.number_bound variables.now }
+    ensures value { result ≡ number_bound variables.now }
 {
     let mut bound = 0;
     for v in variables {
@@ -105,12 +106,26 @@ pub fn names(
     variables: &[VarId],
     bound: &[Bound],
 ) -> Result<List<Option<VarId>>, NoMemory>
-    ensures long { IfOk result (λ names. length names ≡ spec.number_bound variables.now) }
-    ensures partners { IfOk result (λ names. (n : ℕ) → n < length names → slice_get names n ≡ Some (spec.partner_of_number n variables.now bound.now)) }
+    ensures long { IfOk result (λ names. length names ≡ number_bound variables.now) }
+    ensures partners { IfOk result (λ names. (n : ℕ) → n < length names
+        → slice_get names n ≡ Some (spec.partner_of_number n variables.now bound.now)) }
 {
     let mut done = List::new(alloc);
     for n in 0..number_bound(variables) {
         done.push(partner_of_number(n, variables, bound))?;
     }
     Ok(done)
+}
+
+/// Each of the variables bound to itself, once.
+pub fn themselves(alloc: Global, variables: &[VarId]) -> Result<List<Bound>, NoMemory>
+    ensures value { IfOk result (λ bound. bound ≡ spec.with_themselves [] variables.now) }
+{
+    let mut bound = List::new(alloc);
+    for v in variables {
+        if partner(*v, bound.as_slice()).is_none() {
+            bound.push(Bound { from: *v, to: *v })?;
+        }
+    }
+    Ok(bound)
 }

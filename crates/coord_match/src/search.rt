@@ -1,11 +1,11 @@
 // The search, place after place.
 ghost use Rattle.std.specs.Prelude.{◌≡◌, ◌↔◌, ◌<◌, ◌≤◌, ◌++◌, ◌∷◌, ℕ, List, IsTrue, false, true, length, replicate, slice_get, slice_set, take, IfOk};
 ghost use Rattle.std.specs.List.{All};
-ghost use Rattle.coord_match.specs.Bindings.{AreMatching};
-ghost use Rattle.coord_match.specs.Tasks.{Filling, FillingAt, HasNone, IsBest, IsFree, IsSound, goal_of, goals_of};
+ghost use Rattle.coord_match.specs.search.Bindings.{AreMatching};
+ghost use Rattle.coord_match.specs.search.Tasks.{Filling, FillingAt, HasNone, IsBest, IsFree, IsSound, goal_of, goals_of};
 
 use crate::bindings::{Bound, meet};
-use crate::prints::print;
+use crate::fingerprints::fingerprint;
 use sig_base::{List, NoMemory};
 use std::alloc::Global;
 use type_core::{Coordinate, same};
@@ -81,10 +81,11 @@ fn was_tried(task: &Task, place: usize) -> bool
     requires more { task.now.at < length task.now.first.now }
     requires within { place < length task.now.second.now }
     requires sound { IsSound task.now }
-    ensures earlier { IsTrue result → (j : ℕ) × (j < place) × IsFree task.now.taken.items j × (slice_get task.now.second.now j ≡ slice_get task.now.second.now place) }
+    ensures earlier { IsTrue result → (j : ℕ) × (j < place) × IsFree task.now.taken.items j
+        × (slice_get task.now.second.now j ≡ slice_get task.now.second.now place) }
 {
     let (taken, second) = (task.taken.as_slice(), task.second);
-    if taken[place] || print(&task.first[task.at]) != print(&second[place]) {
+    if taken[place] || fingerprint(&task.first[task.at]) != fingerprint(&second[place]) {
         return false;
     }
     for i in 0..place {
@@ -106,9 +107,11 @@ pub fn search<'a>(
 ) -> Result<bool, NoMemory>
     requires sound { All IsSound tasks.old }
     requires matching { AreMatching bound.old }
-    ensures found { IfOk result (λ found. found ≡ true → (w : List ℕ) × (word.new ≡ word.old ++ w) × IsBest bound.old bound.new (Filling (goals_of tasks.old)) w) }
+    ensures found { IfOk result (λ found. found ≡ true → (w : List ℕ) × (word.new ≡ word.old ++ w)
+        × IsBest bound.old bound.new (Filling (goals_of tasks.old)) w) }
     ensures none { IfOk result (λ found. found ≡ false → HasNone bound.old (Filling (goals_of tasks.old))) }
-    ensures kept { IfOk result (λ found. found ≡ false → (tasks.new ≡ tasks.old) × (bound.new ≡ bound.old) × (word.new ≡ word.old)) }
+    ensures kept { IfOk result (λ found. found ≡ false → (tasks.new ≡ tasks.old) × (bound.new ≡ bound.old)
+        × (word.new ≡ word.old)) }
 {
     let Some(top) = tasks.pop() else {
         return Ok(true);
@@ -147,9 +150,12 @@ fn try_place<'a>(
     requires sound_top { IsSound top.now }
     requires sound { All IsSound tasks.old }
     requires matching { AreMatching bound.old }
-    ensures found { IfOk result (λ found. found ≡ true → (w : List ℕ) × (word.new ≡ word.old ++ place ∷ w) × IsBest bound.old bound.new (FillingAt (goal_of top.now) (goals_of tasks.old) place) w) }
-    ensures none { IfOk result (λ found. found ≡ false → HasNone bound.old (FillingAt (goal_of top.now) (goals_of tasks.old) place)) }
-    ensures kept { IfOk result (λ found. found ≡ false → (tasks.new ≡ tasks.old) × (bound.new ≡ bound.old) × (word.new ≡ word.old)) }
+    ensures found { IfOk result (λ found. found ≡ true → (w : List ℕ) × (word.new ≡ word.old ++ place ∷ w)
+        × IsBest bound.old bound.new (FillingAt (goal_of top.now) (goals_of tasks.old) place) w) }
+    ensures none { IfOk result (λ found. found ≡ false
+        → HasNone bound.old (FillingAt (goal_of top.now) (goals_of tasks.old) place)) }
+    ensures kept { IfOk result (λ found. found ≡ false → (tasks.new ≡ tasks.old) × (bound.new ≡ bound.old)
+        × (word.new ≡ word.old)) }
 {
     let taken = top.taken.as_slice();
     if taken[place] {
@@ -160,7 +166,7 @@ fn try_place<'a>(
     if a.arguments.len() != b.arguments.len() {
         return Ok(false);
     }
-    if print(a) != print(b) {
+    if fingerprint(a) != fingerprint(b) {
         return Ok(false);
     }
     let (waiting, before, written) = (tasks.len(), bound.len(), word.len());

@@ -3,62 +3,62 @@ ghost use Rattle.std.specs.Prelude.{◌≡◌, ◌+◌, IfSome, IsTrue};
 ghost use Rattle.iso_normal.specs.Shapes.{nodes_of};
 ghost use Rattle.coord_match.specs.Names.{HaveOneMark};
 
-use crate::first;
 use crate::names::gather_coordinates;
+use crate::{first, first_identical};
 use iso_normal::normal;
-use sig_base::{Boxed, List, NoMemory, Text};
+use sig_base::{List, NoMemory, Row, Shared, Text};
 use std::alloc::Global;
 use std::test::Fail;
 use type_core::{Coordinate, Field, NameId, Ty, VarId};
 
-fn named(alloc: Global, name: u32) -> Ty {
-    Ty::Con(NameId(name), List::new(alloc))
+fn named(name: u32) -> Ty {
+    Ty::Con(NameId(name), Row::empty())
 }
 
 /// The type last read; unit where there is none.
-fn top(alloc: Global, stack: &mut List<Ty>) -> Ty {
+fn top(stack: &mut List<Ty>) -> Ty {
     match stack.pop() {
         Some(t) => t,
-        None => Ty::Tup(List::new(alloc)),
+        None => Ty::Tup(Row::empty()),
     }
 }
 
-fn two(alloc: Global, stack: &mut List<Ty>) -> Result<List<Ty>, NoMemory> {
-    let second = top(alloc, stack);
+fn two(alloc: Global, stack: &mut List<Ty>) -> Result<Row<Ty>, NoMemory> {
+    let second = top(stack);
     let mut both = List::new(alloc);
-    both.push(top(alloc, stack))?;
+    both.push(top(stack))?;
     both.push(second)?;
-    Ok(both)
+    Row::new(alloc, both)
 }
 
 fn arrow(alloc: Global, stack: &mut List<Ty>) -> Result<Ty, NoMemory> {
-    let to = Boxed::new(alloc, top(alloc, stack))?;
-    let from = Boxed::new(alloc, top(alloc, stack))?;
+    let to = Shared::new(alloc, top(stack))?;
+    let from = Shared::new(alloc, top(stack))?;
     Ok(Ty::Arrow(from, to))
 }
 
 fn list_of(alloc: Global, t: Ty) -> Result<Ty, NoMemory> {
     let mut arguments = List::new(alloc);
     arguments.push(t)?;
-    Ok(Ty::Con(NameId(7), arguments))
+    Ok(Ty::Con(NameId(7), Row::new(alloc, arguments)?))
 }
 
 fn record_of(alloc: Global, t: Ty) -> Result<Ty, NoMemory> {
     let label = Text::from_slice(alloc, b"x")?;
     let mut fields = List::new(alloc);
     fields.push(Field { label, ty: t })?;
-    Ok(Ty::Rec(fields))
+    Ok(Ty::Rec(Row::new(alloc, fields)?))
 }
 
 /// The type that a byte makes of those read before it.
 fn step(alloc: Global, stack: &mut List<Ty>, byte: u8) -> Result<Ty, NoMemory> {
     match byte {
-        b'1' => Ok(Ty::Tup(List::new(alloc))),
-        b'I' => Ok(named(alloc, 0)),
-        b'S' => Ok(named(alloc, 4)),
-        b'B' => Ok(named(alloc, 6)),
-        b'L' => list_of(alloc, top(alloc, stack)),
-        b'R' => record_of(alloc, top(alloc, stack)),
+        b'1' => Ok(Ty::Tup(Row::empty())),
+        b'I' => Ok(named(0)),
+        b'S' => Ok(named(4)),
+        b'B' => Ok(named(6)),
+        b'L' => list_of(alloc, top(stack)),
+        b'R' => record_of(alloc, top(stack)),
         b'*' => Ok(Ty::Tup(two(alloc, stack)?)),
         b'>' => arrow(alloc, stack),
         letter => {
@@ -77,7 +77,7 @@ fn read(alloc: Global, text: &[u8]) -> Result<List<Coordinate>, NoMemory> {
         let t = step(alloc, &mut stack, *byte)?;
         stack.push(t)?;
     }
-    let t = top(alloc, &mut stack);
+    let t = top(&mut stack);
     normal(alloc, &t)
 }
 
@@ -137,6 +137,23 @@ fn written(alloc: Global, a: &[u8], b: &[u8]) -> Result<Text, NoMemory> {
             Some(v) => text.push(b'a' + (v.n % 26) as u8)?,
             None => text.push(b'-')?,
         }
+    }
+    Ok(text)
+}
+
+/// The word of the least pairing with identical heads, as digits, or `none`.
+fn written_identical(alloc: Global, a: &[u8], b: &[u8]) -> Result<Text, NoMemory> {
+    let a = read(alloc, a)?;
+    let b = read(alloc, b)?;
+    let Some(_) = left_of(b.as_slice(), 1000) else {
+        return Err(NoMemory);
+    };
+    let Some(word) = first_identical(alloc, &a, &b)? else {
+        return Text::from_slice(alloc, b"none");
+    };
+    let mut text = Text::new(alloc);
+    for place in word.as_slice() {
+        text.push(b'0' + (*place % 10) as u8)?;
     }
     Ok(text)
 }
@@ -217,6 +234,23 @@ fn orders_that_cannot_matter(rt: HostRuntime) -> Result<(), Fail> {
     ];
     for (a, b, wanted) in cases {
         let text = written(alloc, a, b)?;
+        assert!(rt; text.as_slice() == wanted);
+    }
+    Ok(())
+}
+
+#[test]
+fn least_pairings_with_identical_heads(rt: HostRuntime) -> Result<(), Fail> {
+    let alloc = rt.alloc();
+    let cases = [
+        (b"ab*".as_slice(), b"ba*".as_slice(), b"10".as_slice()),
+        (b"ab>ba>*", b"ba>ab>*", b"1000"),
+        (b"aIa**", b"Iaa**", b"102"),
+        (b"a", b"b", b"none"),
+        (b"aaLb*>", b"bbLa*>", b"none"),
+    ];
+    for (a, b, wanted) in cases {
+        let text = written_identical(alloc, a, b)?;
         assert!(rt; text.as_slice() == wanted);
     }
     Ok(())

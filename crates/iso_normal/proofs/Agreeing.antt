@@ -83,14 +83,14 @@ agree_comm [] gs = agree_of_eq (sym (append-nil gs))
 agree_comm (f ∷ fs) gs = more (takes_middle f gs fs) (alike_refl f) (agree_comm fs gs)
 
 -- the partner of one that is taken
-record Partner (g : Factor) (rest all : List Factor) : Type 0 where
-  partner : Factor
-  left : List Factor
-  taken : Takes partner all left
-  like : AreAlike (out-Factor g) (out-Factor partner)
-  others : Agree rest left
+pub record Partner (g : Factor) (rest all : List Factor) : Type 0 where
+  pub partner : Factor
+  pub left : List Factor
+  pub taken : Takes partner all left
+  pub like : AreAlike (out-Factor g) (out-Factor partner)
+  pub others : Agree rest left
 
-partner_of : {g : Factor} {gs rest all : List Factor} → Takes g gs rest → Agree gs all → Partner g rest all
+pub partner_of : {g : Factor} {gs rest all : List Factor} → Takes g gs rest → Agree gs all → Partner g rest all
 partner_of (first _) (more t s others) = record { partner = _; left = _; taken = t; like = s; others = others }
 partner_of (later _ u) (more t s others) =
     let p = partner_of u others in
@@ -102,7 +102,7 @@ mutual
   agree_trans none none = none
   agree_trans (more t s others) q = let p = partner_of t q in more p.taken (alike_trans s p.like) (agree_trans others p.others)
 
-  alike_trans : {x y z : Factor-F Factor} → AreAlike x y → AreAlike y z → AreAlike x z
+  pub alike_trans : {x y z : Factor-F Factor} → AreAlike x y → AreAlike y z → AreAlike x z
   alike_trans (atoms t) (atoms _) = atoms t
   alike_trans (arrows a p) (arrows b q) = arrows (agree_trans a b) (agree_trans p q)
 

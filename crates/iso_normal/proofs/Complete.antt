@@ -6,7 +6,7 @@ use Rattle.type_core.specs.Lists.{concatenated}
 use Rattle.type_core.specs.Types.{IsType}
 use Rattle.type_core.proofs.Trees.{EachOf, induct_type}
 use Rattle.iso_axioms.specs.Axioms.{◌⇒◌, ◌⊗◌, unit, IsoAxiom, LinearAxiom, commute, associate, curry, times_unit, from_unit, nest, linear, distribute, to_unit}
-use Rattle.iso_axioms.specs.Theory.{Closure, IsIsomorphic, IsLinearlyIsomorphic, of_axiom, same, back, chain}
+use Rattle.iso_axioms.specs.Theory.{Closure, IsIsomorphic, IsLinearlyIsomorphic, of_axiom, reflexive, symmetric, transitive}
 use Rattle.iso_axioms.proofs.Types.{AreTypes, arrow_type, arrow_types, each_type, pair_type, pair_types, tuple_of, tuple_types, unit_type}
 use Rattle.iso_axioms.proofs.Closed.{in_arrow, relates_types}
 use Rattle.iso_normal.specs.declared.factor.Factor.{Factor}
@@ -130,11 +130,11 @@ module _ (Axiom : Ty → Ty → Type 0) (has : (a b : Ty) → LinearAxiom a b �
     atom t e = (of_eq (sym (ap type_of_factors e ∙ type_atom t))).forth
 
     parts : (ts : List Ty) → EachOf IsWhole ts → AreTypes ts → Closure Axiom (product ts) (type_of_factors (concatenated (map read ts)))
-    parts [] whole p = same unit unit_type
+    parts [] whole p = reflexive unit unit_type
     parts (t ∷ ts) whole p =
         let each = each_type t ts p in
         let first = (cons t ts).forth (product_type (t ∷ ts) p) in
-        equal.then Axiom (chain first (equal.in_pair Axiom (whole.0 each.0) (parts ts whole.1 each.1))) (turned (append (read t) (concatenated (map read ts))))
+        equal.then Axiom (transitive first (equal.in_pair Axiom (whole.0 each.0) (parts ts whole.1 each.1))) (turned (append (read t) (concatenated (map read ts))))
 
     -- a tuple of other than one component is the product of them
     tuple_is_product : (ts : List Ty) → IsType (ty.Tup ts) → ty.Tup ts ≡ product ts
@@ -151,10 +151,10 @@ module _ (Axiom : Ty → Ty → Type 0) (has : (a b : Ty) → LinearAxiom a b �
         (subst (λ fs. Closure Axiom (product ts) (type_of_factors fs)) (sym (R.of_tup ts)) (parts ts each (tuple_types ts p).1)))
         (λ a b p q r. let sides = arrow_types a b r in
         let inside = in_arrow Axiom (p sides.0) (q sides.1) in
-        subst (λ fs. Closure Axiom (a ⇒ b) (type_of_factors fs)) (sym (R.of_arrow a b)) (chain inside (arrow_is (read a) (read b) (relates_types Axiom inside).1)))
+        subst (λ fs. Closure Axiom (a ⇒ b) (type_of_factors fs)) (sym (R.of_arrow a b)) (transitive inside (arrow_is (read a) (read b) (relates_types Axiom inside).1)))
 
     completed : (a b : Ty) → IsType a → IsType b → Agree (read a) (read b) → Closure Axiom a b
-    completed a b p q e = chain (equal.then Axiom (whole a p) (agreed e)) (back (whole b q))
+    completed a b p q e = transitive (equal.then Axiom (whole a p) (agreed e)) (symmetric (whole b q))
 
   -- as factors read arrows
   factors_of_arrow_type : (ps fs : List Factor) → (type_of_factors ps ⇒ type_of_factors fs) ~ type_of_factors (factors_of_arrow ps fs)
@@ -179,7 +179,7 @@ each_arrow ps (f ∷ fs) p =
     let first = arrow_type c (type_of_factor f) types.0 each.0 in
     let others = arrow_type c (type_of_factors fs) types.0 each.1 in
     let shared = of_axiom (relates_types IsoAxiom split).1 (pair_type (c ⇒ type_of_factor f) (c ⇒ type_of_factors fs) first others) (distribute c (type_of_factor f) (type_of_factors fs)) in
-    equal.then IsoAxiom (chain (chain split shared) (equal.in_pair IsoAxiom ((behind_type IsoAxiom has ps f).forth first) (each_arrow ps fs others)))
+    equal.then IsoAxiom (transitive (transitive split shared) (equal.in_pair IsoAxiom ((behind_type IsoAxiom has ps f).forth first) (each_arrow ps fs others)))
     (turned IsoAxiom has (more_factors IsoAxiom has (behind ps f) (to_each ps fs)))
 
 pub alike_isomorphic : (a b : Ty) → IsType a → IsType b → Agree (coordinate_factors a) (coordinate_factors b) → IsIsomorphic a b

@@ -4,7 +4,7 @@ use Rattle.type_core.specs.declared.ty.Ty.{Ty}
 use Rattle.type_core.specs.declared.ty.Ty.TheVariants as ty
 use Rattle.type_core.specs.Types.{IsType}
 use Rattle.iso_axioms.specs.Axioms.{◌⇒◌, ◌⊗◌, unit, LinearAxiom, commute, associate, curry, times_unit, from_unit, nest}
-use Rattle.iso_axioms.specs.Theory.{Closure, of_axiom, same, back, chain, in_component}
+use Rattle.iso_axioms.specs.Theory.{Closure, of_axiom, reflexive, symmetric, transitive, in_component}
 use Rattle.iso_axioms.proofs.Types.{arrow_type, arrow_types, pair_type, pair_types, tuple_of, tuple_types, more_types, each_type, unit_type}
 use Rattle.iso_axioms.proofs.Closed.{in_arrow, relates_types}
 
@@ -50,15 +50,15 @@ module _ (Axiom : Ty → Ty → Type 0) where
   infixr 30 ◌▹◌
   pub ◌▹◌ : {a b c : Ty} → IsEqual Axiom a b → IsEqual Axiom b c → IsEqual Axiom a c
   e ▹ f = record {
-    forth = λ p. let d = e.forth p in chain d (f.forth (relates_types Axiom d).1);
-    hither = λ p. let d = f.hither p in chain (e.hither (relates_types Axiom d).0) d;
+    forth = λ p. let d = e.forth p in transitive d (f.forth (relates_types Axiom d).1);
+    hither = λ p. let d = f.hither p in transitive (e.hither (relates_types Axiom d).0) d;
   }
 
   pub turned : {a b : Ty} → IsEqual Axiom a b → IsEqual Axiom b a
-  turned e = record { forth = λ p. back (e.hither p); hither = λ p. back (e.forth p) }
+  turned e = record { forth = λ p. symmetric (e.hither p); hither = λ p. symmetric (e.forth p) }
 
   pub itself : (a : Ty) → IsEqual Axiom a a
-  itself a = record { forth = same a; hither = same a }
+  itself a = record { forth = reflexive a; hither = reflexive a }
 
   pub of_eq : {a b : Ty} → a ≡ b → IsEqual Axiom a b
   of_eq {a} e = subst (IsEqual Axiom a) e (itself a)
@@ -68,7 +68,7 @@ module _ (Axiom : Ty → Ty → Type 0) where
   in_pair {a} {b} {c} {d} e f =
       let first = relates_types Axiom e in
       let second = relates_types Axiom f in
-      chain (in_component [] (c ∷ []) (pair_type a c first.0 second.0) e) (in_component (b ∷ []) [] (pair_type b c first.1 second.0) f)
+      transitive (in_component [] (c ∷ []) (pair_type a c first.0 second.0) e) (in_component (b ∷ []) [] (pair_type b c first.1 second.0) f)
 
   pub in_both : {a b c d : Ty} → IsEqual Axiom a b → IsEqual Axiom c d → IsEqual Axiom (a ⊗ c) (b ⊗ d)
   in_both {a} {b} {c} {d} e f = record {
@@ -85,7 +85,7 @@ module _ (Axiom : Ty → Ty → Type 0) where
 
   -- a step after a derivation
   pub then : {a b c : Ty} → Closure Axiom a b → IsEqual Axiom b c → Closure Axiom a c
-  then d e = chain d (e.forth (relates_types Axiom d).1)
+  then d e = transitive d (e.forth (relates_types Axiom d).1)
 
   pub by_linear : ((a b : Ty) → LinearAxiom a b → Axiom a b) → {a b : Ty} → LinearAxiom a b → IsEqual Axiom a b
   by_linear has {a} {b} e = record { forth = λ p. of_axiom p (linear_right e p) (has a b e); hither = λ p. of_axiom (linear_left e p) p (has a b e) }

@@ -12,8 +12,10 @@ pub mod Inverses
 pub mod InversePairs
 pub mod Numbers
 pub mod ReadWords
+pub mod WordsTell
+pub mod Untaken
 pub mod Reified
 pub mod SmallTrees
 pub mod Consistent
-pub mod Fresh
+pub mod CoordinateVariables
 pub mod Schemes

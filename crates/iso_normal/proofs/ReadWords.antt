@@ -26,7 +26,7 @@ nodes_append [] ds = omega (arith, nodes_none)
 nodes_append (c ∷ cs) ds = omega (arith, nodes_more c (cs ++ ds), nodes_more c cs, nodes_append cs ds)
 
 -- words
-abbrev entry_word : Entry → List ℕ
+abbrev pub entry_word : Entry → List ℕ
 entry_word e = place_of e ∷ word_of (args_of e)
 
 word_entries : (es : List Entry) → map (fold-Entry (List ℕ) (List ℕ) word_entry_step word_step) es ≡ map entry_word es

@@ -1,18 +1,19 @@
 -- Schemes are equal up to isomorphism exactly where their coordinates have a consistent pairing.
-use Rattle.std.proofs.Common.{◌≡◌, refl, sym, subst}
+use Rattle.std.proofs.Common.{◌≡◌, ◌∙◌, refl, sym, subst}
 use Rattle.type_core.specs.Coordinates.{coordinates}
 use Rattle.type_core.specs.Renaming.{Renaming, field_renamed, renamed}
 use Rattle.type_core.specs.Types.{IsType}
 use Rattle.type_core.specs.declared.ty.Scheme.{Scheme}
 use Rattle.iso_axioms.specs.SchemeEquality.{AreEqualIn}
 use Rattle.iso_axioms.specs.Theory.{IsIsomorphic}
+use Rattle.iso_axioms.proofs.Extended.{extended, extended_keeps_marks, extended_one_to_one, renamed_extended}
 use Rattle.iso_axioms.proofs.Replaced.{keeps_types, renaming_replaces}
-use Rattle.iso_normal.specs.Consistency.{IsConsistent, variables_among}
+use Rattle.iso_normal.specs.Consistency.{IsConsistent, Turns, variables_among}
 use Rattle.iso_normal.specs.declared.pair_tree.PairTree.{PairTree}
 use Rattle.iso_normal.specs.Pairings.{Pairs}
 use Rattle.iso_normal.proofs.Complete.{alike_isomorphic}
 use Rattle.iso_normal.proofs.Consistent.{coordinates_renamed, pairs_renamed, renamed_pairs}
-use Rattle.iso_normal.proofs.Fresh.{extended, extended_among, extended_keeps_marks, extended_one_to_one, pairs_alike, variables_within}
+use Rattle.iso_normal.proofs.CoordinateVariables.{pairs_over, variables_within}
 use Rattle.iso_normal.proofs.Paired.{agree_of_pairs, paired}
 use Rattle.iso_normal.proofs.Sound.{isomorphic_alike}
 
@@ -34,7 +35,7 @@ pub equal_in_theory : (a b : Scheme) → IsType a.body → IsType b.body → (r 
 equal_in_theory a b is_a is_b r p c =
     let vs = variables_among (coordinates a.body) in
     let s : Renaming = extended r vs in
-    let turned = pairs_alike r s vs (λ v e. sym (extended_among r vs v e)) c.pairs (λ v e. e) in
+    let turned : Pairs (Turns s) (coordinates a.body) (coordinates b.body) p = pairs_over vs (λ h k inside e. renamed_extended r vs h inside ∙ e) c.pairs (λ v e. e) in
     let same = subst (λ cs. Pairs ◌≡◌ cs (coordinates b.body) p) (sym (coordinates_renamed s a.body)) (pairs_renamed s turned) in
     let is_type = keeps_types (renamed s) (field_renamed s) (renaming_replaces s) a.body is_a in (
       s,

@@ -5,7 +5,7 @@ use Rattle.type_core.specs.declared.ty.Ty.{Ty}
 use Rattle.type_core.specs.declared.ty.Ty.TheVariants as ty
 use Rattle.type_core.specs.Lists.{concatenated}
 use Rattle.iso_axioms.specs.Axioms.{◌⇒◌, ◌⊗◌, unit, IsoAxiom, LinearAxiom, commute, associate, curry, times_unit, from_unit, nest, linear, distribute, to_unit}
-use Rattle.iso_axioms.specs.Theory.{Closure, IsIsomorphic, IsLinearlyIsomorphic, of_axiom, same, back, chain, in_from, in_to, in_component}
+use Rattle.iso_axioms.specs.Theory.{Closure, IsIsomorphic, IsLinearlyIsomorphic, of_axiom, reflexive, symmetric, transitive, in_from, in_to, in_component}
 use Rattle.iso_normal.specs.declared.factor.Factor.{Factor}
 use Rattle.iso_normal.specs.declared.factor.Factor.TheVariants.{outs-Arr}
 use Rattle.iso_normal.specs.declared.factor.Factor.TheViews.{out-Factor}
@@ -50,9 +50,9 @@ module _ (read : Ty → List Factor) (arrow : List Factor → List Factor → Li
   module _ (Axiom : Ty → Ty → Type 0) (axiom_alike : (a b : Ty) → Axiom a b → Agree (read a) (read b)) where
     alike : {a b : Ty} → Closure Axiom a b → Agree (read a) (read b)
     alike (of_axiom {a} {b} p q e) = axiom_alike a b e
-    alike (same a p) = agree_refl (read a)
-    alike (back e) = agree_sym (alike e)
-    alike (chain e f) = agree_trans (alike e) (alike f)
+    alike (reflexive a p) = agree_refl (read a)
+    alike (symmetric e) = agree_sym (alike e)
+    alike (transitive e f) = agree_trans (alike e) (alike f)
     alike (in_from {a} {b} c p e) = subst₂ Agree (sym (R.of_arrow a c)) (sym (R.of_arrow b c)) (A.alike (read a) (read b) (read c) (read c) (alike e) (agree_refl (read c)))
     alike (in_to {a} {b} c p e) = subst₂ Agree (sym (R.of_arrow c a)) (sym (R.of_arrow c b)) (A.alike (read c) (read c) (read a) (read b) (agree_refl (read c)) (alike e))
     alike (in_component {a} {b} before after p e) = subst₂ Agree (sym (R.of_tup (before ++ a ∷ after))) (sym (R.of_tup (before ++ b ∷ after))) (parts before after a b (alike e))
@@ -95,7 +95,7 @@ pub isomorphic_alike : {a b : Ty} → IsIsomorphic a b → Agree (coordinate_fac
 isomorphic_alike = alike read to_each reads_coordinates arrows_to_each IsoAxiom iso_alike
 
 -- factors
-arrow_curried : (ps qs fs : List Factor) → factors_of_arrow (ps ++ qs) fs ≡ factors_of_arrow ps (factors_of_arrow qs fs)
+pub arrow_curried : (ps qs fs : List Factor) → factors_of_arrow (ps ++ qs) fs ≡ factors_of_arrow ps (factors_of_arrow qs fs)
 arrow_curried [] qs fs = refl
 arrow_curried (p ∷ ps) [] fs = ap (λ xs. factors_of_arrow xs fs) (append-nil (p ∷ ps))
 arrow_curried (p ∷ ps) (q ∷ qs) [] = ap (λ x. arrow_to (p ∷ ps) x ∷ []) (sym (outs-Arr (q ∷ qs) []))

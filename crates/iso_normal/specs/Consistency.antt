@@ -5,6 +5,7 @@ use Rattle.type_core.specs.declared.coordinate.Coordinate.TheOpen.{Coordinate-F}
 use Rattle.type_core.specs.declared.coordinate.Coordinate.TheFolds.{fold-Coordinate}
 use Rattle.type_core.specs.declared.ty.VarId.{VarId}
 use Rattle.type_core.specs.declared.ty.Ty.{Ty}
+use Rattle.type_core.specs.Coordinates.{coordinate}
 use Rattle.type_core.specs.Lists.{concatenated}
 use Rattle.type_core.specs.Renaming.{IsOneToOne, KeepsMarks, Renaming, renamed}
 use Rattle.type_core.specs.Variables.{variables}
@@ -26,6 +27,13 @@ variables_among cs = concatenated (map coordinate_variables cs)
 -- the renaming turns one type into the other
 abbrev pub Turns : Renaming → Ty → Ty → Type 0
 Turns r t u = renamed r t ≡ u
+
+abbrev pub renamed_step : Renaming → Coordinate-F Coordinate → Coordinate
+renamed_step r c = coordinate c.arguments (renamed r c.head)
+
+-- the coordinate with the variables of all its heads renamed
+abbrev pub renamed_coordinate : Renaming → Coordinate → Coordinate
+renamed_coordinate r = fold-Coordinate Coordinate (renamed_step r)
 
 -- p pairs c with d, and r turns each head of c, at every depth, into its partner's head; r sends no two variables of c
 -- to one, and keeps their marks

@@ -1,9 +1,12 @@
--- The linear factors of a type, and the type of a list of factors.
-use Rattle.std.specs.Prelude.{List, [], ◌∷◌, ◌++◌, map}
+-- The linear factors of a type, the type of a list of factors, and what a factor is.
+use Rattle.std.specs.Prelude.{◌≡◌, List, [], ◌∷◌, ◌++◌, map}
+use Rattle.type_core.specs.declared.ty.NameId.{NameId}
+use Rattle.type_core.specs.declared.ty.VarId.{VarId}
 use Rattle.type_core.specs.declared.ty.Ty.{Ty}
 use Rattle.type_core.specs.declared.ty.Field.{Field}
 use Rattle.type_core.specs.declared.ty.Ty.TheVariants as ty
 use Rattle.type_core.specs.declared.ty.Ty.TheOpen.{Ty-F, Var, Con, Rec, Tup, Arrow}
+use Rattle.type_core.specs.declared.ty.Ty.TheViews.{out-Ty}
 use Rattle.type_core.specs.declared.ty.Ty.TheFolds.{para-Ty}
 use Rattle.type_core.specs.Lists.{concatenated}
 use Rattle.iso_axioms.specs.Axioms.{◌⇒◌, unit}
@@ -55,3 +58,26 @@ type_of_factor = fold-Factor Ty type_step
 -- the type of a list of factors: the product of their types
 abbrev pub type_of_factors : List Factor → Ty
 type_of_factors fs = product (map type_of_factor fs)
+
+-- a variable, an application or a record
+pub data IsAtom : Ty-F Ty Field → Type 0 where
+  variable : (v : VarId) → IsAtom (Var v)
+  application : (name : NameId) (arguments : List Ty) → IsAtom (Con name arguments)
+  labelled : (fields : List Field) → IsAtom (Rec fields)
+
+-- the factors aren't one single arrow
+pub data IsNotOneArrow : List Factor → Type 0 where
+  nothing : IsNotOneArrow []
+  one_atom : {g : Factor} (t : Ty) → out-Factor g ≡ Atom t → IsNotOneArrow (g ∷ [])
+  several : (g h : Factor) (rest : List Factor) → IsNotOneArrow (g ∷ h ∷ rest)
+
+mutual
+  -- a factor is an atom, or an arrow from at least one factor to factors that aren't one single arrow
+  pub data IsFactor : Factor-F Factor → Type 0 where
+    atom : (t : Ty) → IsAtom (out-Ty t) → IsFactor (Atom t)
+    arrow : {f : Factor} {others results : List Factor} → AreFactors (f ∷ others) → AreFactors results → IsNotOneArrow results → IsFactor (Arr (f ∷ others) results)
+
+  -- each of them is a factor
+  pub data AreFactors : List Factor → Type 0 where
+    none : AreFactors []
+    more : {f : Factor} {fs : List Factor} → IsFactor (out-Factor f) → AreFactors fs → AreFactors (f ∷ fs)

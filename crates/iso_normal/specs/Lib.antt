@@ -1,4 +1,5 @@
 pub mod PairTrees
+pub mod WordOrder
 pub mod Pairings
 pub mod Consistency
 pub mod Shapes

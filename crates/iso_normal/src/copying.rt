@@ -19,3 +19,30 @@ pub fn copy_coordinates(alloc: Global, all: &[Coordinate]) -> Result<List<Coordi
     }
     Ok(done)
 }
+
+/// The same factors again.
+#[cycle(copy_factors)]
+pub fn copy_factors(alloc: Global, all: &[Factor]) -> Result<List<Factor>, NoMemory>
+    ensures value { IfOk result (λ r. r ≡ all.now) }
+{
+    let mut done = List::new(alloc);
+    for one in all {
+        done.push(copy_factor(alloc, one)?)?;
+    }
+    Ok(done)
+}
+
+/// The same factor again.
+#[cycle(copy_factors)]
+pub fn copy_factor(alloc: Global, one: &Factor) -> Result<Factor, NoMemory>
+    ensures value { IfOk result (λ r. r ≡ one.now) }
+{
+    match one {
+        Factor::Atom(t) => Ok(Factor::Atom(copy(alloc, t)?)),
+        Factor::Arr(arguments, results) => {
+            let arguments = copy_factors(alloc, arguments.as_slice())?;
+            let results = copy_factors(alloc, results.as_slice())?;
+            Ok(Factor::Arr(arguments, results))
+        }
+    }
+}

@@ -40,7 +40,8 @@ fn inverse_entries(alloc: Global, entries: &[Entry]) -> Result<List<Entry>, NoMe
 fn numbers_by_place(alloc: Global, entries: &[Entry]) -> Result<List<usize>, NoMemory>
     requires permutation { IsPermutation (places_of entries.now) }
     ensures length { IfOk result (λ numbers. length numbers ≡ length entries.now) }
-    ensures numbers { IfOk result (λ numbers. (j : ℕ) (e : Entry) → slice_get entries.now j ≡ Some e → slice_get numbers (place_of e) ≡ Some j) }
+    ensures numbers { IfOk result (λ numbers. (j : ℕ) (e : Entry) → slice_get entries.now j ≡ Some e
+        → slice_get numbers (place_of e) ≡ Some j) }
     ensures few { IfOk result (λ numbers. length entries.now ≤ 2 ^ 32) }
 {
     let mut numbers = vec![in alloc; 0; entries.len()]?;

@@ -11,7 +11,8 @@ ghost use Rattle.iso_normal.specs.Pairings.{Pairs};
 
 /// Two types are isomorphic exactly where their coordinates can be paired.
 pub fn isomorphic_types_have_pairings()
-    ensures law { (a b : Ty) → IsType a → IsType b → IsIsomorphic a b ↔ ((p : PairTree) × Pairs ◌≡◌ (coordinates a) (coordinates b) p) }
+    ensures law { (a b : Ty) → IsType a → IsType b → IsIsomorphic a b
+        ↔ ((p : PairTree) × Pairs ◌≡◌ (coordinates a) (coordinates b) p) }
 {}
 
 /// Two types are linearly isomorphic exactly where their factors agree.

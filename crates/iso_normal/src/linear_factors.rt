@@ -58,8 +58,8 @@ fn add_atom(alloc: Global, t: &Ty, done: &mut List<Factor>) -> Result<(), NoMemo
     done.push(Factor::Atom(atom))
 }
 
-/// Adds the factors of an arrow, by those of its sides.
-fn add_arrow(
+/// Adds the factors of the arrow whose sides have these factors.
+pub fn add_arrow(
     alloc: Global,
     arguments: List<Factor>,
     results: List<Factor>,

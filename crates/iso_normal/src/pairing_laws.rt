@@ -9,7 +9,8 @@ ghost use Rattle.iso_normal.specs.PairTrees.{IsPermuted, inverse};
 /// The places of a pairing are a permutation at each level.
 pub fn pairings_are_permuted()
     ensures law { (c d : List Coordinate) (p : PairTree) → Pairs ◌≡◌ c d p → IsPermuted p }
-    ensures renamed { (r : Renaming) (c d : List Coordinate) (p : PairTree) → Pairs (λ h k. renamed r h ≡ k) c d p → IsPermuted p }
+    ensures renamed { (r : Renaming) (c d : List Coordinate) (p : PairTree)
+        → Pairs (λ h k. renamed r h ≡ k) c d p → IsPermuted p }
 {}
 
 /// The inverse of a pairing of c with d is one of d with c.

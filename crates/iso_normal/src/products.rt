@@ -3,7 +3,7 @@ ghost use Rattle.std.specs.Prelude.{◌≡◌, IfOk, map};
 ghost use Rattle.iso_normal.specs.Factors.{product, type_of_factor, type_of_factors};
 
 use crate::factor::Factor;
-use sig_base::{Boxed, List, NoMemory};
+use sig_base::{List, NoMemory, Row, Shared};
 use std::alloc::Global;
 use type_core::{Ty, copy};
 
@@ -19,7 +19,7 @@ fn product_of(alloc: Global, fs: &[Factor]) -> Result<Ty, NoMemory>
     ensures value { IfOk result (λ t. t ≡ type_of_factors fs.now) }
 {
     let types = types_of(alloc, fs)?;
-    Ok(product(types))
+    product(alloc, types)
 }
 
 #[cycle(reify)]
@@ -43,22 +43,22 @@ fn type_of(alloc: Global, f: &Factor) -> Result<Ty, NoMemory>
         Factor::Arr(arguments, results) => {
             let from = product_of(alloc, arguments.as_slice())?;
             let to = product_of(alloc, results.as_slice())?;
-            let from = Boxed::new(alloc, from)?;
-            let to = Boxed::new(alloc, to)?;
+            let from = Shared::new(alloc, from)?;
+            let to = Shared::new(alloc, to)?;
             Ok(Ty::Arrow(from, to))
         }
     }
 }
 
-fn product(types: List<Ty>) -> Ty
-    ensures value { result ≡ product types }
+fn product(alloc: Global, types: List<Ty>) -> Result<Ty, NoMemory>
+    ensures value { IfOk result (λ t. t ≡ product types) }
 {
     if types.len() != 1 {
-        return Ty::Tup(types);
+        return Ok(Ty::Tup(Row::new(alloc, types)?));
     }
     let mut types = types;
     match types.pop() {
-        Some(t) => t,
-        None => Ty::Tup(types),
+        Some(t) => Ok(t),
+        None => Ok(Ty::Tup(Row::empty())),
     }
 }

@@ -12,5 +12,6 @@ ghost use Rattle.iso_normal.specs.declared.pair_tree.PairTree.{PairTree};
 /// Two schemes are equal up to isomorphism exactly where a pairing of their coordinates is consistent under some
 /// renaming of the variables that occur in those of the first.
 pub fn isomorphic_schemes_have_pairings()
-    ensures law { (a b : Scheme) → IsType a.body → IsType b.body → AreEqualIn IsIsomorphic a b ↔ ((r : Renaming) × (p : PairTree) × IsConsistent r (coordinates a.body) (coordinates b.body) p) }
+    ensures law { (a b : Scheme) → IsType a.body → IsType b.body → AreEqualIn IsIsomorphic a b
+        ↔ ((r : Renaming) × (p : PairTree) × IsConsistent r (coordinates a.body) (coordinates b.body) p) }
 {}

@@ -2,8 +2,8 @@
 ghost use Rattle.std.specs.Prelude.{◌≡◌, [], ◌∷◌, IfOk};
 ghost use Rattle.iso_normal.specs.PairTrees.{IsPermuted, entry, pair_tree};
 
-use crate::{Entry, Factor, PairTree, inverse, linear, normal, pairing, reify};
-use sig_base::{Boxed, List, NoMemory, Text};
+use crate::{Entry, Factor, PairTree, agree, inverse, linear, normal, pairing, reify};
+use sig_base::{List, NoMemory, Row, Shared, Text};
 use std::alloc::Global;
 use std::test::Fail;
 use type_core::{Coordinate, NameId, Ty, VarId, initial_names, print_type};
@@ -15,13 +15,13 @@ fn variable(letter: u8) -> Ty {
     })
 }
 
-fn unit(alloc: Global) -> Ty {
-    Ty::Tup(List::new(alloc))
+fn unit() -> Ty {
+    Ty::Tup(Row::empty())
 }
 
 fn arrow(alloc: Global, from: Ty, to: Ty) -> Result<Ty, NoMemory> {
-    let from = Boxed::new(alloc, from)?;
-    let to = Boxed::new(alloc, to)?;
+    let from = Shared::new(alloc, from)?;
+    let to = Shared::new(alloc, to)?;
     Ok(Ty::Arrow(from, to))
 }
 
@@ -33,39 +33,40 @@ fn pair(alloc: Global, first: Ty, second: Ty) -> Result<List<Ty>, NoMemory> {
 }
 
 /// The type last read; unit where there is none.
-fn top(alloc: Global, stack: &mut List<Ty>) -> Ty {
+fn top(stack: &mut List<Ty>) -> Ty {
     match stack.pop() {
         Some(t) => t,
-        None => unit(alloc),
+        None => unit(),
     }
 }
 
 /// The type that a byte makes of those read before it.
 fn step(alloc: Global, stack: &mut List<Ty>, byte: u8) -> Result<Ty, NoMemory> {
     match byte {
-        b'1' => Ok(unit(alloc)),
+        b'1' => Ok(unit()),
         b'*' => {
-            let second = top(alloc, stack);
-            let first = top(alloc, stack);
-            Ok(Ty::Tup(pair(alloc, first, second)?))
+            let second = top(stack);
+            let first = top(stack);
+            Ok(Ty::Tup(Row::new(alloc, pair(alloc, first, second)?)?))
         }
         b'>' => {
-            let to = top(alloc, stack);
-            let from = top(alloc, stack);
+            let to = top(stack);
+            let from = top(stack);
             arrow(alloc, from, to)
         }
         b'3' => {
-            let third = top(alloc, stack);
-            let second = top(alloc, stack);
-            let first = top(alloc, stack);
+            let third = top(stack);
+            let second = top(stack);
+            let first = top(stack);
             let mut all = pair(alloc, first, second)?;
             all.push(third)?;
-            Ok(Ty::Tup(all))
+            Ok(Ty::Tup(Row::new(alloc, all)?))
         }
         b'N' => {
-            let second = top(alloc, stack);
-            let first = top(alloc, stack);
-            Ok(Ty::Con(NameId(13), pair(alloc, first, second)?))
+            let second = top(stack);
+            let first = top(stack);
+            let arguments = Row::new(alloc, pair(alloc, first, second)?)?;
+            Ok(Ty::Con(NameId(13), arguments))
         }
         letter => Ok(variable(letter)),
     }
@@ -79,7 +80,7 @@ fn read(alloc: Global, text: &[u8]) -> Result<Ty, NoMemory> {
         let t = step(alloc, &mut stack, *byte)?;
         stack.push(t)?;
     }
-    Ok(top(alloc, &mut stack))
+    Ok(top(&mut stack))
 }
 
 /// Writes a letter for a variable, and `N` for another head.
@@ -192,6 +193,30 @@ fn types_have_factors(rt: HostRuntime) -> Result<(), Fail> {
         let t = read(alloc, text)?;
         assert!(rt; has_factors(alloc, &t, factors)?);
         assert!(rt; has_product(alloc, &t, product)?);
+    }
+    Ok(())
+}
+
+fn have_like_factors(alloc: Global, first: &[u8], second: &[u8]) -> Result<bool, NoMemory> {
+    let fs = linear(alloc, &read(alloc, first)?)?;
+    let gs = linear(alloc, &read(alloc, second)?)?;
+    agree(alloc, fs.as_slice(), gs.as_slice())
+}
+
+#[test]
+fn factors_agree(rt: HostRuntime) -> Result<(), Fail> {
+    let alloc = rt.alloc();
+    let cases = [
+        (b"abc**".as_slice(), b"cb*a*".as_slice(), true),
+        (b"aab**", b"abb**", false),
+        (b"aa*", b"a", false),
+        (b"abc>>", b"ba*c>", true),
+        (b"ab>cd>*", b"cd>ab>*", true),
+        (b"ab>", b"ba>", false),
+        (b"a1>", b"1", false),
+    ];
+    for (first, second, wanted) in cases {
+        assert!(rt; have_like_factors(alloc, first, second)? == wanted);
     }
     Ok(())
 }

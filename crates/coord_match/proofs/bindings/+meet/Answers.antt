@@ -1,4 +1,4 @@
-use Rattle.coord_match.specs.Bindings.{met, met_field}
+use Rattle.coord_match.specs.search.Bindings.{met, met_field}
 use Rattle.coord_match.proofs.Unequal.{unequal}
 use Rattle.coord_match.proofs.bindings.+meet.Goals as goal
 

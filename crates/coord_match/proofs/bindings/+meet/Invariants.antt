@@ -1,5 +1,5 @@
 use Rattle.std.proofs.Common.{◌≡◌, drop, map}
-use Rattle.coord_match.specs.Bindings.{IsBefore, all_met, met, met_field}
+use Rattle.coord_match.specs.search.Bindings.{IsBefore, all_met, met, met_field}
 use Rattle.coord_match.proofs.bindings.+meet.Given as goal
 
 abbrev pub invariant-meet_all-loop-i : goal.invariant-meet_all-loop-i

@@ -1,5 +1,5 @@
 use Rattle.std.proofs.Common.{◌≡◌, drop}
-use Rattle.coord_match.specs.Bindings.{bind}
+use Rattle.coord_match.specs.search.Bindings.{bind}
 use Rattle.coord_match.proofs.bindings.bind.Given as goal
 
 abbrev pub invariant-loop-i : goal.invariant-loop-i

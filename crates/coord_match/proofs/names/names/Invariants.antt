@@ -1,5 +1,5 @@
 use Rattle.std.proofs.Common.{◌≡◌, ◌<◌, ℕ, Some, length, slice_get}
-use Rattle.coord_match.specs.Names.{partner_of_number}
+use Rattle.coord_match.specs.search.Partners.{partner_of_number}
 use Rattle.coord_match.proofs.names.names.Given as goal
 
 abbrev pub invariant-loop-n : goal.invariant-loop-n

@@ -1,5 +1,5 @@
 use Rattle.std.proofs.Common.{◌≡◌, drop}
-use Rattle.coord_match.specs.Names.{partner}
+use Rattle.coord_match.specs.search.Partners.{partner}
 use Rattle.coord_match.proofs.names.partner.Given as goal
 
 abbrev pub invariant-loop-one : goal.invariant-loop-one

@@ -1,5 +1,5 @@
 use Rattle.std.proofs.Common.{◌≡◌, drop}
-use Rattle.coord_match.specs.Names.{partner_of_number}
+use Rattle.coord_match.specs.search.Partners.{partner_of_number}
 use Rattle.coord_match.proofs.names.partner_of_number.Given as goal
 
 abbrev pub invariant-loop-v : goal.invariant-loop-v

@@ -1,7 +1,7 @@
 use Rattle.std.proofs.Common.{true, ◌++◌, ◌∷◌, [], Some, false, replicate, slice_set, refl, sym, ap, ◌∙◌, subst, append_assoc, append-nil, arith}
 use Rattle.std.specs.List.{All}
-use Rattle.coord_match.specs.Bindings.{AreMatching, when}
-use Rattle.coord_match.specs.Tasks.{IsSound, goal_of, goals_of}
+use Rattle.coord_match.specs.search.Bindings.{AreMatching, when}
+use Rattle.coord_match.specs.search.Tasks.{IsSound, goal_of, goals_of}
 use Rattle.coord_match.proofs.Tasked.{best_found, best_if, best_nothing, best_popped, mark_at, matching_then, none_found, none_if, none_if_apart, none_if_more, none_if_taken, none_if_tried, none_if_unlike, none_popped, rest_sound, some_nodes, sound_then, top_sound, weight_popped, weight_then}
 use Rattle.coord_match.proofs.Weights.{weight}
 use Rattle.coord_match.proofs.search.+search.Goals as goal
@@ -111,10 +111,10 @@ search-places-preserved-then-was_tried t c =
     let inv = c.places.invariant in
     (inv.0, inv.1, inv.2, none_if_tried c.args.bound.now c.pop.new.self c.in-Some.top c.if-top.false c.places.place (c.was_tried.ensures.earlier c.if-was_tried.true) inv.3)
 
-pub try_place-returns-then-print-clause-none : goal.try_place-returns-then-print-clause-none
-try_place-returns-then-print-clause-none t c = λ e.
+pub try_place-returns-then-fingerprint-clause-none : goal.try_place-returns-then-fingerprint-clause-none
+try_place-returns-then-fingerprint-clause-none t c = λ e.
     none_if_unlike c.args.bound.now c.requires.matching c.args.top.now c.args.tasks.now c.requires.more c.index-first-top.result c.index-first-top.is c.args.place c.requires.within c.index-second-place.result c.index-second-place.is
-    (λ l. c.if-print.true (c.print.ensures.value ∙ l ∙ sym c.print-2.ensures.value))
+    (λ l. c.if-fingerprint.true (c.fingerprint.ensures.value ∙ l ∙ sym c.fingerprint-2.ensures.value))
 
 pub try_place-returns-then-taken-place-clause-none : goal.try_place-returns-then-taken-place-clause-none
 try_place-returns-then-taken-place-clause-none t c = λ e.

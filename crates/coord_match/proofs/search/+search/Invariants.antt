@@ -1,5 +1,5 @@
 use Rattle.std.proofs.Common.{◌≡◌, ◌+◌, ◌*◌, ◌∷◌}
-use Rattle.coord_match.specs.Tasks.{goal_of, goals_of}
+use Rattle.coord_match.specs.search.Tasks.{goal_of, goals_of}
 use Rattle.coord_match.proofs.Searched.{NoneBefore}
 use Rattle.coord_match.proofs.Weights.{weight}
 use Rattle.coord_match.proofs.search.+search.Given as goal

@@ -5,13 +5,14 @@ use Rattle.type_core.specs.declared.ty.Ty.{Ty}
 use Rattle.type_core.specs.Renaming.{Renaming, renamed}
 use Rattle.type_core.specs.ValidLibrary.{AreDistinct}
 use Rattle.iso_normal.specs.declared.pair_tree.Entry.{Entry}
+use Rattle.iso_normal.specs.declared.pair_tree.PairTree.{PairTree}
 use Rattle.iso_normal.specs.PairTrees.{args_of, place_of, places_of, word_of}
-use Rattle.iso_normal.specs.Pairings.{PairEach}
+use Rattle.iso_normal.specs.Pairings.{PairEach, Pairs}
 use Rattle.iso_normal.specs.Shapes.{nodes_of}
 use Rattle.coord_match.specs.declared.search.Task.{Task}
-use Rattle.coord_match.specs.Bindings.{AreMatching, Allows, Bindings}
+use Rattle.coord_match.specs.search.Bindings.{AreMatching, Allows, Bindings}
 use Rattle.iso_normal.specs.Consistency.{Turns}
-use Rattle.coord_match.specs.LeastPairing.{IsNotAfter}
+use Rattle.iso_normal.specs.WordOrder.{IsNotAfter}
 
 -- coordinates that are still to be paired with others, of which some are taken
 pub record Goal : Type 0 where
@@ -46,6 +47,10 @@ AllTurn s t u = (r : Renaming) → Allows s r → renamed r t ≡ u
 -- what words are looked for, by the relation of heads
 abbrev pub Wanted : Type 1
 Wanted = (Ty → Ty → Type 0) → List ℕ → Type 0
+
+-- the words of the pairings of two lists
+abbrev pub Pairing : List Coordinate → List Coordinate → Wanted
+Pairing a b heads word = (p : PairTree) × Pairs heads a b p × (word ≡ word_of p)
 
 -- the words that pair the goals
 abbrev pub Filling : List Goal → Wanted

@@ -1,6 +1,6 @@
 // Numbers of coordinates that a pairing keeps.
 ghost use Rattle.std.specs.Prelude.{◌≡◌, ◌%◌, map};
-ghost use Rattle.coord_match.specs.Prints as spec;
+ghost use Rattle.coord_match.specs.search.Fingerprints as spec;
 
 use type_core::{Coordinate, Field, Ty};
 
@@ -18,59 +18,65 @@ fn mark_number(eq: bool) -> u32
 }
 
 /// A number of the type, the same for all that differ in the numbers of variables alone.
-#[cycle(type_print)]
-fn type_print(t: &Ty) -> u32
-    ensures value { result ≡ spec.type_print t.now }
+#[cycle(type_fingerprint)]
+fn type_fingerprint(t: &Ty) -> u32
+    ensures value { result ≡ spec.type_fingerprint t.now }
 {
     match t {
         Ty::Var(v) => mix(1, mark_number(v.eq)),
         Ty::Con(name, parts) => all_mixed(mix(2, name.0), parts.as_slice()),
         Ty::Rec(fields) => fields_mixed(3, fields.as_slice()),
         Ty::Tup(parts) => all_mixed(4, parts.as_slice()),
-        Ty::Arrow(from, to) => mix(mix(5, type_print(from.get())), type_print(to.get())),
+        Ty::Arrow(from, to) => mix(
+            mix(5, type_fingerprint(from.get())),
+            type_fingerprint(to.get()),
+        ),
     }
 }
 
-#[cycle(type_print)]
+#[cycle(type_fingerprint)]
 fn all_mixed(start: u32, parts: &[Ty]) -> u32
-    ensures value { result ≡ spec.all_mixed start (map spec.type_print parts.now) }
+    ensures value { result ≡ spec.all_mixed start (map spec.type_fingerprint parts.now) }
 {
     let mut number = start;
     for part in parts {
-        number = mix(number, type_print(part));
+        number = mix(number, type_fingerprint(part));
     }
     number
 }
 
-#[cycle(type_print)]
+#[cycle(type_fingerprint)]
 fn fields_mixed(start: u32, fields: &[Field]) -> u32
-    ensures value { result ≡ spec.all_mixed start (map spec.field_print fields.now) }
+    ensures value { result ≡ spec.all_mixed start (map spec.field_fingerprint fields.now) }
 {
     let mut number = start;
     for field in fields {
-        number = mix(number, type_print(&field.ty));
+        number = mix(number, type_fingerprint(&field.ty));
     }
     number
 }
 
 /// A number of the coordinate, the same for all that differ in the numbers of variables and the order of arguments
 /// alone.
-#[cycle(print)]
-#[tactic(auto, using(crate::proofs::Printed::print_opened, std::proofs::lemmas::Grind::common_steps))]
-pub fn print(c: &Coordinate) -> u32
-    ensures value { result ≡ spec.print_of c.now }
+#[cycle(fingerprint)]
+#[tactic(auto, using(crate::proofs::KeptFingerprints::fingerprint_opened, std::proofs::lemmas::Grind::common_steps))]
+pub fn fingerprint(c: &Coordinate) -> u32
+    ensures value { result ≡ spec.fingerprint_of c.now }
 {
-    mix(type_print(&c.head), print_sum(c.arguments.as_slice()))
+    mix(
+        type_fingerprint(&c.head),
+        fingerprint_sum(c.arguments.as_slice()),
+    )
 }
 
 /// The last 32 bits of the sum of the numbers of the coordinates.
-#[cycle(print)]
-pub fn print_sum(cs: &[Coordinate]) -> u32
-    ensures value { result ≡ spec.print_sum cs.now % 4294967296 }
+#[cycle(fingerprint)]
+pub fn fingerprint_sum(cs: &[Coordinate]) -> u32
+    ensures value { result ≡ spec.fingerprint_sum cs.now % 4294967296 }
 {
     let mut sum = 0;
     for c in cs {
-        sum = ((sum as u64 + print(c) as u64) % 4294967296) as u32;
+        sum = ((sum as u64 + fingerprint(c) as u64) % 4294967296) as u32;
     }
     sum
 }

@@ -24,28 +24,28 @@ mark_number true = 1
 mark_number false = 0
 
 -- of a variable only the mark counts
-abbrev pub type_print_step : Ty-F ℕ ℕ → ℕ
-type_print_step (Var v) = mixed 1 (mark_number v.eq)
-type_print_step (Con name arguments) = all_mixed (mixed 2 name.0) arguments
-type_print_step (Rec fields) = all_mixed 3 fields
-type_print_step (Tup components) = all_mixed 4 components
-type_print_step (Arrow from to) = mixed (mixed 5 from) to
+abbrev pub type_fingerprint_step : Ty-F ℕ ℕ → ℕ
+type_fingerprint_step (Var v) = mixed 1 (mark_number v.eq)
+type_fingerprint_step (Con name arguments) = all_mixed (mixed 2 name.0) arguments
+type_fingerprint_step (Rec fields) = all_mixed 3 fields
+type_fingerprint_step (Tup components) = all_mixed 4 components
+type_fingerprint_step (Arrow from to) = mixed (mixed 5 from) to
 
 -- a number of the type, the same for all that differ in the numbers of variables alone
-abbrev pub type_print : Ty → ℕ
-type_print = fold-Ty ℕ ℕ type_print_step (λ field. field.ty)
+abbrev pub type_fingerprint : Ty → ℕ
+type_fingerprint = fold-Ty ℕ ℕ type_fingerprint_step (λ field. field.ty)
 
-abbrev pub field_print : Field → ℕ
-field_print = fold-Field ℕ ℕ type_print_step (λ field. field.ty)
+abbrev pub field_fingerprint : Field → ℕ
+field_fingerprint = fold-Field ℕ ℕ type_fingerprint_step (λ field. field.ty)
 
 -- the head's mixed with the sum of the arguments'
-abbrev pub print_step : Coordinate-F ℕ → ℕ
-print_step c = mixed (type_print c.head) (sum_of c.arguments % 4294967296)
+abbrev pub fingerprint_step : Coordinate-F ℕ → ℕ
+fingerprint_step c = mixed (type_fingerprint c.head) (sum_of c.arguments % 4294967296)
 
 -- a number of the coordinate, the same for all that differ in the numbers of variables and the order of arguments alone
-abbrev pub print_of : Coordinate → ℕ
-print_of = fold-Coordinate ℕ print_step
+abbrev pub fingerprint_of : Coordinate → ℕ
+fingerprint_of = fold-Coordinate ℕ fingerprint_step
 
 -- the sum of the numbers of the coordinates
-abbrev pub print_sum : List Coordinate → ℕ
-print_sum cs = sum_of (map print_of cs)
+abbrev pub fingerprint_sum : List Coordinate → ℕ
+fingerprint_sum cs = sum_of (map fingerprint_of cs)
