@@ -1,11 +1,13 @@
-mod Flaws
-mod OneLoading
-mod Taking
 mod OneMeasure
 mod FewNodes
 mod OneMark
-mod OneTree
+mod Images
+mod Marks
+mod Beside
 mod LeastPairings
-mod Found
+mod Matched
+mod Details
+mod Telling
+pub mod Found
 mod OneAnswer
 mod Reported

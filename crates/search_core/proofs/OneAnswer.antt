@@ -1,16 +1,24 @@
 -- A query has one list of hits.
-use Rattle.std.proofs.Common.{◌≡◌, ◌↔◌, ℕ, zero, suc, ◌<◌, ◌⊎◌, inl, inr, List, [], ◌∷◌, length, Option, Some, slice_get, slice_index_or, refl, sym, ap, ap₂, ◌∙◌, subst, arith}
+use Rattle.std.proofs.Common.{◌≡◌, ◌↔◌, ℕ, zero, suc, ◌<◌, ◌⊎◌, inl, inr, List, [], ◌∷◌, length, Some, slice_get, slice_index_or, refl, sym, ap, ap₂, ◌∙◌, subst, arith}
 use Rattle.std.specs.List.{All, AllPairs, Contains}
 use Rattle.std.proofs.lemmas.List.Elements.{All-contains_itself, All-head, All-tail, All-weaker}
 use Rattle.type_core.specs.declared.library.Library.{Library}
+use Rattle.type_core.specs.declared.names.TypeName.{TypeName}
 use Rattle.type_core.specs.declared.ty.Scheme.{Scheme}
+use Rattle.iso_normal.proofs.WordsTell.{next_letter, next_letters}
 use Rattle.iso_normal.specs.declared.pair_tree.PairTree.{PairTree}
-use Rattle.coord_match.specs.LeastPairing.{IsNotAfter, ends, less, same}
+use Rattle.coord_match.proofs.OneLeast as least
+use Rattle.linear_match.specs.declared.instance.Instance.{Instance}
+use Rattle.linear_match.specs.LeastWord.{IsFirst}
+use Rattle.linear_match.proofs.OneFirst.{one_first}
+use Rattle.conv_build.specs.declared.converters.Converters.{Converters}
+use Rattle.search_core.specs.declared.answer.Details.{Details}
 use Rattle.search_core.specs.declared.answer.Hit.{Hit}
 use Rattle.search_core.specs.declared.answer.Mode.{Mode}
 use Rattle.search_core.specs.declared.answer.Mode.TheVariants as mode
-use Rattle.search_core.specs.Search.{AreHits, HasPairing, IsDue, IsPairing, numbers_of}
-use Rattle.search_core.proofs.OneTree.{next_letter, next_letters, read_is, shape_of}
+use Rattle.search_core.specs.Search.{AreDetails, AreHits, HasDetails, IsDue, IsMatched, IsPaired, details_of, numbers_of}
+use Rattle.search_core.specs.Converters.{AreConverters}
+use Rattle.search_core.proofs.Beside.{one_converters, one_pair}
 
 -- rising numbers are told by what they contain
 has_first : (x : ℕ) (xs : List ℕ) → Contains (x ∷ xs) x
@@ -63,45 +71,66 @@ one_list [] (y ∷ ys) r s both = absurd (has_nothing y ((both y).1 (has_first y
 one_list (x ∷ xs) [] r s both = absurd (has_nothing x ((both x).0 (has_first x xs)))
 one_list (x ∷ xs) (y ∷ ys) r s both =
     let e = first_is x y xs ys r s ((both x).0 (has_first x xs)) ((both y).1 (has_first y ys)) in
-    ap₂ ◌∷◌ e (one_list xs ys (later_rise x xs r) (later_rise y ys s) (λ n. (later_is x y xs ys r s e n (both n).0, later_is y x ys xs s r (sym e) n (both n).1)))
+    ap₂ ◌∷◌ e (one_list xs ys (later_rise x xs r) (later_rise y ys s)
+    (λ n. (later_is x y xs ys r s e n (both n).0, later_is y x ys xs s r (sym e) n (both n).1)))
 
--- a word that is neither after another nor before it
-one_word : {v w x y : List ℕ} → IsNotAfter v w → IsNotAfter x y → v ≡ y → w ≡ x → v ≡ w
-one_word (ends w) (ends y) e f = sym f
-one_word (ends w) (less x y m) e f = absurd (cc e)
-one_word (ends w) (same j m) e f = absurd (cc e)
-one_word (less v w l) (ends y) e f = absurd (cc f)
-one_word (less v w l) (less x y m) e f = absurd (omega (arith, l, m, next_letter e, next_letter f))
-one_word (less v w l) (same j m) e f = absurd (omega (arith, l, next_letter e, next_letter f))
-one_word (same k n) (ends y) e f = absurd (cc f)
-one_word (same k n) (less x y m) e f = absurd (omega (arith, m, next_letter e, next_letter f))
-one_word (same k n) (same j m) e f = ap (λ w. k ∷ w) (one_word n m (next_letters e) (next_letters f))
+same_details : (p q : Details) → p.pairing ≡ q.pairing → p.instance ≡ q.instance → p.conv ≡ q.conv → p ≡ q
+same_details p q e f g = λ i. record { pairing = e i; instance = f i; conv = g i }
 
-one_pairing : (m : Mode) (a b : Scheme) (p q : Option PairTree) → IsPairing m a b p → IsPairing m a b q → p ≡ q
-one_pairing mode.Same a b p q e f = e ∙ sym f
-one_pairing mode.Iso a b p q e f =
-    let word = one_word (f.2.least e.0 e.1 e.2.consistent) (e.2.least f.0 f.1 f.2.consistent) refl refl in
-    e.3 ∙ ap Some (read_is e.2.consistent.pairs (shape_of f.2.consistent.pairs) word) ∙ sym f.3
+-- there is one instance of the least word, as a record
+one_instance : (names : List TypeName) (a b : Scheme) (i j : Instance) → IsFirst names a b.body i.word i.subst i.body
+    → IsFirst names a b.body j.word j.subst j.body → i ≡ j
+one_instance names a b i j first also =
+    let one = one_first first also in
+    λ k. record { subst = one.1 k; body = one.2 k; word = one.0 k }
+
+one_matched : (names : List TypeName) (a b : Scheme) (i : Instance) (p q : PairTree) (c d : Converters)
+    → IsMatched names a b i p c → IsMatched names a b i q d → (p ≡ q) × (c ≡ d)
+one_matched names a b i p q c d first also =
+    let same : p ≡ q = least.one_identical first.least also.least in
+    (same, one_pair i.body b.body q c d (subst (λ p. AreConverters i.body b.body p c) same first.converters) also.converters)
+
+one_details : (names : List TypeName) (m : Mode) (a b : Scheme) (p q : Details) → AreDetails names m a b p
+    → AreDetails names m a b q → p ≡ q
+one_details names mode.Same a b p q e f = same_details p q (e.0 ∙ sym f.0) (e.1 ∙ sym f.1) (e.2 ∙ sym f.2)
+one_details names mode.Iso a b p q (tree, terms, tree_is, none, terms_are, paired) (other, others, other_is, also_none, others_are, also) =
+    let same : tree ≡ other = least.one_pairing paired.least also.least in
+    let one : terms ≡ others = one_converters a b other terms others (subst (λ p. IsPaired a b p terms) same paired)
+    also in
+    same_details p q (tree_is ∙ ap Some same ∙ sym other_is) (none ∙ sym also_none) (terms_are ∙ ap Some one ∙ sym others_are)
+one_details names mode.General a b p q (tree, it, terms, tree_is, it_is, terms_are, matched) (other, its, others, other_is, its_is, others_are, also) =
+    let instance : it ≡ its = one_instance names a b it its matched.first also.first in
+    let one = one_matched names a b its tree other terms others (subst (λ i. IsMatched names a b i tree terms) instance matched) also in
+    same_details p q (tree_is ∙ ap Some one.0 ∙ sym other_is) (it_is ∙ ap Some instance ∙ sym its_is)
+    (terms_are ∙ ap Some one.1 ∙ sym others_are)
 
 module _ (library : Library) (m : Mode) (query : Scheme) where
-  same_hit : (hit other : Hit) → hit.member ≡ other.member → hit.pairing ≡ other.pairing → hit ≡ other
-  same_hit hit other e f = λ i. record { member = e i; pairing = f i }
+  same_hit : (hit other : Hit) → hit.member ≡ other.member → details_of hit ≡ details_of other → hit ≡ other
+  same_hit hit other e f = λ i. record { member = e i; pairing = (f i).pairing; instance = (f i).instance; conv = (f i).conv }
 
-  same_hits : (hits others : List Hit) → numbers_of hits ≡ numbers_of others → All (IsDue library m query) (numbers_of hits) → All (HasPairing library m query) hits → All (HasPairing library m query) others → hits ≡ others
+  same_hits : (hits others : List Hit) → numbers_of hits ≡ numbers_of others
+      → All (IsDue library m query) (numbers_of hits) → All (HasDetails library m query) hits
+      → All (HasDetails library m query) others → hits ≡ others
   same_hits [] [] e due p q = refl
   same_hits [] (other ∷ others) e due p q = absurd (cc e)
   same_hits (hit ∷ hits) [] e due p q = absurd (cc e)
   same_hits (hit ∷ hits) (other ∷ others) e due p q =
       let number : hit.member ≡ other.member = next_letter e in
       let found = All-head (IsDue library m query) hit.member (numbers_of hits) due in
-      let pairing = All-head (HasPairing library m query) hit hits p found.0 found.1 in
-      let also = All-head (HasPairing library m query) other others q found.0 (ap (slice_get library.members) (sym number) ∙ found.1) in
-      ap₂ ◌∷◌ (same_hit hit other number (one_pairing m found.0.scheme query hit.pairing other.pairing pairing also))
-      (same_hits hits others (next_letters e) (All-tail (IsDue library m query) hit.member (numbers_of hits) due) (All-tail (HasPairing library m query) hit hits p) (All-tail (HasPairing library m query) other others q))
+      let details = All-head (HasDetails library m query) hit hits p found.0 found.1 in
+      let also = All-head (HasDetails library m query) other others q found.0
+      (ap (slice_get library.members) (sym number) ∙ found.1) in
+      ap₂ ◌∷◌ (same_hit hit other number
+      (one_details library.names m found.0.scheme query (details_of hit) (details_of other) details also))
+      (same_hits hits others (next_letters e) (All-tail (IsDue library m query) hit.member (numbers_of hits) due)
+      (All-tail (HasDetails library m query) hit hits p) (All-tail (HasDetails library m query) other others q))
 
-  pub one_answer : (hits others : List Hit) → AreHits library m query hits → AreHits library m query others → hits ≡ others
+  pub one_answer : (hits others : List Hit) → AreHits library m query hits → AreHits library m query others
+      → hits ≡ others
   one_answer hits others a b =
       same_hits hits others
-      (one_list (numbers_of hits) (numbers_of others) a.rising b.rising (λ n. (λ has. (b.exact n).1 ((a.exact n).0 has), λ has. (a.exact n).1 ((b.exact n).0 has))))
-      (All-weaker (Contains (numbers_of hits)) (IsDue library m query) (λ n has. (a.exact n).0 has) (numbers_of hits) (All-contains_itself (numbers_of hits)))
-      a.pairings b.pairings
+      (one_list (numbers_of hits) (numbers_of others) a.rising b.rising
+      (λ n. (λ has. (b.exact n).1 ((a.exact n).0 has), λ has. (a.exact n).1 ((b.exact n).0 has))))
+      (All-weaker (Contains (numbers_of hits)) (IsDue library m query) (λ n has. (a.exact n).0 has) (numbers_of hits)
+      (All-contains_itself (numbers_of hits)))
+      a.details b.details

@@ -14,7 +14,7 @@ use Rattle.type_core.proofs.NormalSizes.{count_arrow, count_con, count_rec, coun
 use Rattle.type_core.proofs.Trees.{AtField, EachOf, induct_type, normal_size_arrow, normal_size_con, normal_size_rec, normal_size_tup, normal_size_var, renamed_arrow, renamed_con, renamed_field, renamed_rec, renamed_tup, renamed_var, size_arrow, size_con, size_field, size_rec, size_tup, size_var}
 use Rattle.iso_axioms.specs.Axioms.{◌⇒◌, ◌⊗◌, IsoAxiom, LinearAxiom, associate, commute, curry, distribute, from_unit, linear, nest, times_unit, to_unit, unit}
 use Rattle.iso_axioms.specs.SchemeEquality.{AreEqualIn}
-use Rattle.iso_axioms.specs.Theory.{IsIsomorphic, back, chain, in_component, in_from, in_to, of_axiom, same}
+use Rattle.iso_axioms.specs.Theory.{IsIsomorphic, in_component, in_from, in_to, of_axiom, reflexive, symmetric, transitive}
 
 -- as many coordinates, and of the same size together
 record HaveOneMeasure (a b : Ty) : Type 0 where
@@ -130,9 +130,9 @@ in_place f (t ∷ before) after e = ap (λ n. f t + n) (in_place f before after 
 
 one_measure : {a b : Ty} → IsIsomorphic a b → HaveOneMeasure a b
 one_measure (of_axiom p q step) = of_iso step
-one_measure (same a p) = record { count = refl; size = refl }
-one_measure (back h) = let m = one_measure h in record { count = sym m.count; size = sym m.size }
-one_measure (chain g h) = let m = one_measure g in let n = one_measure h in record { count = m.count ∙ n.count; size = m.size ∙ n.size }
+one_measure (reflexive a p) = record { count = refl; size = refl }
+one_measure (symmetric h) = let m = one_measure h in record { count = sym m.count; size = sym m.size }
+one_measure (transitive g h) = let m = one_measure g in let n = one_measure h in record { count = m.count ∙ n.count; size = m.size ∙ n.size }
 one_measure (in_from {a} {b} c p h) =
     let m = one_measure h in
     record {

@@ -1,4 +1,6 @@
-pub mod Files
-pub mod Loading
+pub mod Converters
 pub mod Search
+pub mod Comparing
+pub mod Telling
 pub mod Report
+pub mod Printing
