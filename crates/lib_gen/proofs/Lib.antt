@@ -1,0 +1,4 @@
+mod MoreTotals
+mod Numbered
+mod OneSummary
+mod Spread

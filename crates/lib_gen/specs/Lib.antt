@@ -1,0 +1,4 @@
+pub mod Generator
+pub mod Summary
+pub mod Classes
+pub mod Counts
