@@ -1,6 +1,6 @@
 -- What files, a query and a command come to is due.
-use Rattle.std.proofs.Common.{◌≡◌, inl, inr, ℕ, List, sym, subst, arith}
-use Rattle.std.specs.Prelude.{Result, Ok, Err, IfOk, IfErr, Option}
+use Rattle.std.proofs.Common.{◌≡◌, inl, inr, ℕ, Bool, List, refl, sym, subst}
+use Rattle.std.specs.Prelude.{Option, Some, None, Result, Ok, Err}
 use Rattle.sig_base.specs.FileMap.{FileMap}
 use Rattle.sml_lexer.specs.declared.line_col.LineCol.{LineCol}
 use Rattle.sml_lexer.specs.Places.{column_at, line_at}
@@ -9,79 +9,66 @@ use Rattle.type_core.specs.declared.ty.Scheme.{Scheme}
 use Rattle.elab_types.specs.Stages as stages
 use Rattle.query_parser.specs.declared.refusal.QueryWhy.{QueryWhy}
 use Rattle.query_parser.specs.Queries.{Asks}
+use Rattle.query_cli.specs.declared.command.Command.{Command}
+use Rattle.lib_load.specs.declared.refusals.LoadRefusal.{LoadRefusal}
+use Rattle.lib_load.specs.declared.refusals.LoadRefusal.TheVariants as load
+use Rattle.lib_load.specs.Given.{FromGiven, Gives}
+use Rattle.lib_load.specs.Loading as loading
 use Rattle.search_core.specs.declared.answer.Hit.{Hit}
 use Rattle.search_core.specs.declared.answer.Mode.{Mode}
-use Rattle.search_core.specs.declared.refusals.LoadRefusal.{LoadRefusal}
-use Rattle.search_core.specs.declared.refusals.LoadRefusal.TheVariants as load
-use Rattle.search_core.specs.Loading as loading
-use Rattle.search_core.specs.Loading.{Loads}
 use Rattle.search_core.specs.Search.{AreHits}
-use Rattle.isosearch.specs.Ending.{Decides, IfUnread, IsDecided, outcome_of, reported}
-use Rattle.isosearch.specs.Outcome.{Answers, Due, Outcome, all, answer, bad_query, found, listed, refusal, refused_files, searched}
-use Rattle.isosearch.specs.Words.{Command, Request, list, search}
-use Rattle.isosearch.specs.declared.run.Report.{Report}
-use Rattle.isosearch.specs.declared.run.Refusal.{Refusal}
-use Rattle.isosearch.specs.declared.run.Refusal.TheVariants as refused
+use Rattle.isosearch.specs.Answering.{Fails, IsAnswerTo, IsDueGiven, IsDueTold, IsFinding, WantsMemory, answered}
+use Rattle.isosearch.specs.Asked.{LoadsFor, OfHeld, limit_of, paths_of}
+use Rattle.isosearch.specs.Outcome.{Finding, answer, bad_query, found, refusal, refused_files, searched}
+use Rattle.isosearch.specs.declared.answering.Answer.{Answer}
+use Rattle.isosearch.specs.declared.answering.Refusal.{Refusal}
+use Rattle.isosearch.specs.declared.answering.Refusal.TheVariants as refused
 
 -- the refusal of a query is due
-pub query_refused : (library : Library) (mode : Mode) (query : List ℕ) (why : QueryWhy) (place : ℕ) (at : LineCol) → Asks library query (stages.refused why place) → at.line ≡ line_at query place → at.col ≡ column_at query place
-    → (paths : List (List ℕ)) → Decides (Answers library (search mode query)) paths (refused.Query why at)
-query_refused library mode query why place at asks line column paths = λ _. rw (line, column) (bad_query asks)
+pub query_refused : (library : Library) (mode : Mode) (query : List ℕ) (names : Bool) (why : QueryWhy) (place : ℕ) (at : LineCol) → Asks library query (stages.refused why place) → at.line ≡ line_at query place → at.col ≡ column_at query place
+    → IsFinding library mode query names (Err (refused.Query why at))
+query_refused library mode query names why place at asks line column = λ asked kept. rw (line, column) (bad_query asks)
 
 -- the report of the hits is due
-pub query_found : (library : Library) (mode : Mode) (query : List ℕ) (scheme : Scheme) (outcome : Outcome) → Asks library query (Ok scheme) → (hits : List Hit) × AreHits library mode scheme hits × (outcome ≡ searched library hits)
-    → Answers library (search mode query) outcome
-query_found library mode query scheme outcome asks (hits, are, is) = let D = Answers library (search mode query) in subst D (sym is) (found asks are)
+pub query_found : (library : Library) (mode : Mode) (query : List ℕ) (names : Bool) (scheme : Scheme) (a : Answer) → Asks library query (Ok scheme)
+    → (hits : List Hit) × AreHits library mode scheme hits × ((asked : Command) → answered asked a ≡ searched library hits names) → IsFinding library mode query names (Ok a)
+query_found library mode query names scheme a asks (hits, are, is) = λ asked kept. let A = Finding library mode query names in subst A (sym (is asked)) (found asks are)
 
-module _ (told : Option FileMap) (command : Command) (library : Library) (request : Request) (is : command.request ≡ request) (loaded : Loads told command.files (Ok library)) where
-  -- what is due over the library of the files is due
-  pub one_due : (outcome : Outcome) → Answers library request outcome → Due told command outcome
-  one_due outcome due = let D : Request → Type 0 = λ request. Answers library request outcome in answer loaded (subst D (sym is) due)
+-- what is due over the library of the files is due
+module _ (asked : Command) (library : Library) (result : Result Answer Refusal) (answers : IsAnswerTo library asked result) where
+  pub answer_given : {S : Type 0} (gives : Gives S) (faults : S → List ℕ → ℕ) (first last : S)
+      → FromGiven (limit_of asked) gives faults (paths_of asked) first last (LoadsFor asked (Ok library)) → IsDueGiven gives faults first last asked result
+  answer_given gives faults first last read = λ kept. record { givens = read.givens; gave = read.gave; follows = answer library read.follows (answers kept) }
 
-  pub answer_due : (result : Result Report Refusal) → IfOk result (λ r. Answers library request (reported r)) → IfOk result (λ r. Due told command (reported r))
-  answer_due (Ok r) due = one_due (reported r) due
-  answer_due (Err r) due = tt
+  pub answer_told : (told : Option FileMap) → OfHeld told asked (LoadsFor asked (Ok library)) → IsDueTold told asked result
+  answer_told None loaded = λ sound. tt
+  answer_told (Some files) loaded = λ sound. answer library loaded (answers (λ seven. sound (inr seven)))
 
-  pub refusal_due : (result : Result Report Refusal) → ((paths : List (List ℕ)) → IfErr result (λ r. Decides (Answers library request) paths r)) → IfErr result (λ r. Decides (Due told command) command.files r)
-  refusal_due (Ok r) due = tt
-  refusal_due (Err r) due = λ decided. one_due (outcome_of command.files r) (due command.files decided)
+-- what the status says of a refusal of files
+read_answers : (paths : List (List ℕ)) (r : LoadRefusal) → (WantsMemory (refused_files paths r) → ⊥) → loading.IsAnswer {A = Library} (Err r)
+read_answers paths load.TooManyFiles kept = tt
+read_answers paths (load.ReadFault file) kept = tt
+read_answers paths (load.TooLong file) kept = tt
+read_answers paths (load.Bad file line column fault) kept = tt
+read_answers paths load.NotAnIndex kept = tt
+read_answers paths load.NoMemory kept = kept refl
 
--- a list of all members is due
-pub list_due : (told : Option FileMap) (command : Command) (library : Library) (outcome : Outcome) → command.request ≡ list → Loads told command.files (Ok library) → outcome ≡ listed library → Due told command outcome
-list_due told command library outcome is loaded same = one_due told command library list is loaded outcome (let D = Answers library list in subst D (sym same) all)
-
--- neither a fault of reading nor want of memory decides the run
-five_not : IsDecided 5 → ⊥
-five_not (inl e) = omega (arith, e)
-five_not (inr (inl e)) = omega (arith, e)
-five_not (inr (inr (inl e))) = omega (arith, e)
-five_not (inr (inr (inr e))) = omega (arith, e)
-
-seven_not : IsDecided 7 → ⊥
-seven_not (inl e) = omega (arith, e)
-seven_not (inr (inl e)) = omega (arith, e)
-seven_not (inr (inr (inl e))) = omega (arith, e)
-seven_not (inr (inr (inr e))) = omega (arith, e)
-
--- the files decide a refusal that decides the run
-decided_by_files : (paths : List (List ℕ)) (r : LoadRefusal) → IsDecided (refused_files paths r).status → loading.Decides r
-decided_by_files paths load.TooManyFiles decided = tt
-decided_by_files paths (load.ReadFault file) decided = five_not decided
-decided_by_files paths (load.TooLong file) decided = tt
-decided_by_files paths (load.Bad file line column fault) decided = tt
-decided_by_files paths load.NoMemory decided = seven_not decided
+held_decides : (paths : List (List ℕ)) (r : LoadRefusal) → (Fails (refused_files paths r) → ⊥) → loading.IsDecided {A = Library} (Err r)
+held_decides paths load.TooManyFiles sound = tt
+held_decides paths (load.ReadFault file) sound = sound (inl refl)
+held_decides paths (load.TooLong file) sound = tt
+held_decides paths (load.Bad file line column fault) sound = tt
+held_decides paths load.NotAnIndex sound = tt
+held_decides paths load.NoMemory sound = sound (inr refl)
 
 -- the refusal of the files is due
-pub loading_due : (told : Option FileMap) (command : Command) (r : LoadRefusal) → (loading.Decides r → Loads told command.files (Err r)) → Decides (Due told command) command.files (refused.Files r)
-loading_due told command r fails = λ decided. refusal (fails (decided_by_files command.files r decided))
+module _ (asked : Command) (r : LoadRefusal) where
+  pub refusal_given : {S : Type 0} (gives : Gives S) (faults : S → List ℕ → ℕ) (first last : S)
+      → (loading.IsAnswer {A = Library} (Err r) → FromGiven (limit_of asked) gives faults (paths_of asked) first last (LoadsFor asked (Err r))) → IsDueGiven gives faults first last asked (Err (refused.Files r))
+  refusal_given gives faults first last fails = λ kept.
+      let loaded = fails (read_answers (paths_of asked) r kept) in
+      record { givens = loaded.givens; gave = loaded.gave; follows = refusal r loaded.follows }
 
--- where no file is unread, whatever is said holds of the one that is
-pub none_unread : (result : Result Report Refusal) (holds : ℕ → Type 0) → IfUnread result (λ _. ⊥) → IfUnread result holds
-none_unread (Ok r) holds never = tt
-none_unread (Err (refused.Files load.TooManyFiles)) holds never = tt
-none_unread (Err (refused.Files (load.ReadFault file))) holds never = absurd never
-none_unread (Err (refused.Files (load.TooLong file))) holds never = tt
-none_unread (Err (refused.Files (load.Bad file line column fault))) holds never = tt
-none_unread (Err (refused.Files load.NoMemory)) holds never = tt
-none_unread (Err (refused.Query why at)) holds never = tt
-none_unread (Err refused.NoMemory) holds never = tt
+  pub refusal_told : (told : Option FileMap) → (loading.IsDecided {A = Library} (Err r) → OfHeld told asked (LoadsFor asked (Err r))) → IsDueTold told asked (Err (refused.Files r))
+  refusal_told None fails = λ sound. tt
+  refusal_told (Some files) fails = λ sound. refusal r (fails (held_decides (paths_of asked) r sound))

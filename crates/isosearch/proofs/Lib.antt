@@ -1,6 +1,13 @@
 pub mod Answered
+pub mod Asking
 pub mod Digits
 pub mod DueEnds
 pub mod DueOne
+pub mod Paths
+pub mod PrintedEnds
+pub mod RefusedEnds
+pub mod Replacing
 pub mod Reported
 pub mod Saying
+pub mod Unchanged
+pub mod WrittenEnds

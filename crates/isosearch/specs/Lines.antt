@@ -1,5 +1,5 @@
 -- The lines for standard error.
-use Rattle.std.specs.Prelude.{◌⊎◌, ℕ, List, ◌++◌, Option, codes, decimal}
+use Rattle.std.specs.Prelude.{◌⊎◌, ℕ, List, ◌++◌, codes, decimal}
 use Rattle.std.specs.Io.KnownBytes.{Appends}
 use Rattle.sig_base.specs.Faults.{Rose}
 use Rattle.sig_base.specs.Writing.{AppendsPart}
@@ -8,12 +8,13 @@ use Rattle.elab_rules.specs.declared.refusal.Why.{Why}
 use Rattle.elab_rules.specs.declared.refusal.Why.TheVariants as why
 use Rattle.query_parser.specs.declared.refusal.QueryWhy.{QueryWhy}
 use Rattle.query_parser.specs.declared.refusal.QueryWhy.TheVariants as query
-use Rattle.search_core.specs.declared.refusals.Fault.{Fault}
-use Rattle.search_core.specs.declared.refusals.Fault.TheVariants as fault
+use Rattle.lib_load.specs.declared.refusals.Fault.{Fault}
+use Rattle.lib_load.specs.declared.refusals.Fault.TheVariants as fault
+use Rattle.isosearch.specs.Outside.{Stream}
 
 -- a line was added, or a part of it and the count of faults rose
-abbrev pub Says : Option (List ℕ) → Option (List ℕ) → ℕ → ℕ → List ℕ → Type 0
-Says before now count later line = Appends before now line ⊎ (Rose count later × AppendsPart before now line)
+abbrev pub Says : Stream → Stream → List ℕ → Type 0
+Says before now line = Appends before.bytes now.bytes line ⊎ (Rose before.faults now.faults × AppendsPart before.bytes now.bytes line)
 
 -- the words are no command
 abbrev pub usage_line : List ℕ
@@ -23,9 +24,13 @@ usage_line = codes "usage: isosearch list|same|iso|general|index|gen\n"
 abbrev pub no_memory_line : List ℕ
 no_memory_line = codes "out of memory\n"
 
--- the output failed
-abbrev pub not_written_line : List ℕ
-not_written_line = codes "output: cannot be written\n"
+-- writing to the output, or to this file, failed
+abbrev pub not_written_line : List ℕ → List ℕ
+not_written_line name = name ++ codes ": cannot be written\n"
+
+-- the name of the output
+abbrev pub output_name : List ℕ
+output_name = codes "output"
 
 -- reading this file failed
 abbrev pub not_read_line : List ℕ → List ℕ
@@ -34,6 +39,10 @@ not_read_line file = file ++ codes ": cannot be read\n"
 -- this file is longer than a source may be
 abbrev pub too_long_line : List ℕ → List ℕ
 too_long_line file = file ++ codes ": longer than 4194304 bytes\n"
+
+-- this file is the index text of no library
+abbrev pub no_index_line : List ℕ → List ℕ
+no_index_line file = file ++ codes ": not an index\n"
 
 -- this file is one too many
 abbrev pub too_many_line : List ℕ → List ℕ

@@ -2,8 +2,8 @@
 ghost use Rattle.std.specs.Prelude.{◌≡◌};
 ghost use Rattle.isosearch.specs.Lines.{fault_text as the_fault_text, query_text as the_query_text, why_text as the_why_text};
 
+use lib_load::Fault;
 use query_parser::QueryWhy;
-use search_core::Fault;
 use sig_elab::Why;
 
 /// What is said of a fault of a file.

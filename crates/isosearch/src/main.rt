@@ -1,14 +1,20 @@
 //! A library search for Standard ML signatures.
 #![tactic(auto)]
 
+mod answering;
+mod commands;
 mod decimal;
 mod fault;
+#[cfg(test)]
+mod found_tests;
 mod laws;
 mod lines;
+mod loading;
+mod refusing;
 mod run;
 #[cfg(test)]
 mod tests;
-mod words;
+mod writing;
 
 use crate::run::run;
 use sig_base::{HostFiles, HostSink};

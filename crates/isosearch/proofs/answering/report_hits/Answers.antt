@@ -1,5 +1,5 @@
 use Rattle.isosearch.proofs.Reported.{searched_is}
-use Rattle.isosearch.proofs.run.report_hits.Goals as goal
+use Rattle.isosearch.proofs.answering.report_hits.Goals as goal
 
 pub search-requires-clause-library : goal.search-requires-clause-library
 search-requires-clause-library c = c.valid_libraries_can_be_searched.ensures.law _ c.requires.valid
@@ -7,5 +7,5 @@ search-requires-clause-library c = c.valid_libraries_can_be_searched.ensures.law
 pub report-requires : goal.report-requires
 report-requires c = record { members = c.hits_are_members.ensures.law _ _ _ _ c.in_ok-answer.ensures.hits }
 
-pub returns : goal.returns
-returns c = searched_is _ _ _ _ _ c.in_ok-answer.ensures.hits c.in_ok-text.ensures.value c.is_empty.ensures.value
+pub returns-clause-hits : goal.returns-clause-hits
+returns-clause-hits c = searched_is _ _ _ _ _ _ _ c.in_ok-answer.ensures.hits c.in_ok-text.ensures.value c.is_empty.ensures.value
