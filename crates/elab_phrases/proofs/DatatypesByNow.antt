@@ -19,7 +19,7 @@ use Rattle.elab_rules.specs.Standing.{IsFoundOver, Sees, SeesOver}
 use Rattle.elab_rules.specs.Views.{body_at, entries_at, found_of, found_seen, site_at, site_of}
 use Rattle.elab_types.specs.Views.{texts}
 use Rattle.elab_phrases.proofs.FunctionsByNow.{initial_stays, sought_now}
-use Rattle.elab_phrases.proofs.LookedUp.{found_with, values_in_with}
+use Rattle.elab_rules.proofs.LookedUp.{found_with, values_in_with}
 use Rattle.elab_phrases.proofs.SoughtByNow.{datatype_with}
 use Rattle.elab_phrases.proofs.Stands.{sees_over}
 

@@ -27,7 +27,7 @@ use Rattle.elab_rules.specs.Replacing.{environment_with, replaced_in}
 use Rattle.elab_rules.specs.Standing.{AreOver, IsSettled}
 use Rattle.elab_rules.specs.Views.{entries_at}
 use Rattle.elab_rules.specs.Wheres.{types_of}
-use Rattle.elab_phrases.proofs.ClosedAgain.{closed_again, renamed_inside}
+use Rattle.elab_rules.proofs.ClosedAgain.{closed_again, renamed_inside}
 use Rattle.elab_rules.proofs.Entries.{IsAfter, types_with, with_after, with_agrees}
 
 -- ---- renamed variables

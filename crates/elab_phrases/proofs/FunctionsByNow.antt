@@ -28,7 +28,7 @@ use Rattle.elab_rules.specs.States.{State}
 use Rattle.elab_rules.specs.Views.{GivesNumber, body_at, found_of, site_at, site_of, state_of}
 use Rattle.elab_types.specs.Views.{texts}
 use Rattle.elab_phrases.proofs.EntriesByNow.{settled_is}
-use Rattle.elab_phrases.proofs.InitialSettled.{initial_settled}
+use Rattle.elab_rules.proofs.InitialSettled.{initial_settled}
 use Rattle.elab_rules.proofs.AddedNames.{IsExternal, named_is, not_realized}
 use Rattle.elab_phrases.proofs.SettledParts.{name_settled}
 use Rattle.elab_phrases.proofs.SoughtByNow.{UnitStays, sought_by_now, sought_with}

@@ -21,7 +21,7 @@ use Rattle.elab_rules.specs.Parameters.{marked, numbered_from}
 use Rattle.elab_rules.specs.Standing.{IsSettledType, Mentions}
 use Rattle.elab_rules.specs.States.{State, with_name}
 use Rattle.elab_rules.specs.Views.{state_of}
-use Rattle.elab_phrases.proofs.LaterNames.{known_within}
+use Rattle.elab_rules.proofs.LaterNames.{known_within}
 use Rattle.elab_phrases.proofs.SettledParts.{name_settled}
 
 -- realizations are of names that there are

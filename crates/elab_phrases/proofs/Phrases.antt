@@ -22,7 +22,7 @@ use Rattle.elab_rules.specs.Types.{Variables, typed}
 use Rattle.elab_rules.specs.Types as types
 use Rattle.elab_rules.specs.Views.{GivesBody, body_at, site_at}
 use Rattle.elab_rules.proofs.Entries.{all_types_split}
-use Rattle.elab_phrases.proofs.LookedUp.{new_type_with, new_value_with}
+use Rattle.elab_rules.proofs.LookedUp.{new_type_with, new_value_with}
 use Rattle.elab_rules.proofs.Outcomes.{handed_on}
 use Rattle.elab_phrases.proofs.Sites.{body_mentions, site_mentions}
 

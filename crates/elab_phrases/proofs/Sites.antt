@@ -14,7 +14,7 @@ use Rattle.elab_rules.specs.Replacing.{environment_with}
 use Rattle.elab_rules.specs.Standing.{AreOver, Grew, IsEarly, Mentions, StandsFrom}
 use Rattle.elab_rules.specs.Types as spec
 use Rattle.elab_rules.specs.Views.{body_at, place_by_now, site_at, site_of, variables_of}
-use Rattle.elab_phrases.proofs.LaterNames.{stays}
+use Rattle.elab_rules.proofs.LaterNames.{stays}
 
 -- ---- by the realizations
 abbrev by_realizations : Site → List Realization → bodies.Site

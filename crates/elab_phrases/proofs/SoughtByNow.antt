@@ -14,7 +14,7 @@ use Rattle.elab_rules.specs.InitialEnvironment.{initial_environment}
 use Rattle.elab_rules.specs.LongIdentifiers.{Found, found_in, type_along}
 use Rattle.elab_rules.specs.LookUps.{Sought, Known, Missing, Elsewhere, along_sought, datatype_sought, is_top, known, simple_sought, sought, structure_entries, structure_sought, top_structure, unit_in}
 use Rattle.elab_rules.specs.Replacing.{environment_with}
-use Rattle.elab_phrases.proofs.LookedUp.{found_in_with, found_with, structure_in_with, type_along_with, type_in_with}
+use Rattle.elab_rules.proofs.LookedUp.{found_in_with, found_with, structure_in_with, type_along_with, type_in_with}
 
 -- the first that is given, where each of the givers was changed
 first_with : {A B : Type 0} (h : A → A) (f : B → B) (given : A → Option B) → ((x : A) → given (h x) ≡ option_map f (given x)) → (xs : List A) → first_given given (map h xs) ≡ option_map f (first_given given xs)

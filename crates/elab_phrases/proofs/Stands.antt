@@ -19,7 +19,7 @@ use Rattle.elab_rules.specs.Environments.{Environment}
 use Rattle.elab_rules.specs.Standing.{AreOver, Begins, Grew, IsEarly, IsMadeBelow, IsSettled, IsSettledScheme, IsSettledType, Mentions, Sees, SeesOver, StandsFrom}
 use Rattle.elab_rules.specs.Views.{site_of, state_of}
 use Rattle.elab_rules.specs.Wheres.{types_of}
-use Rattle.elab_phrases.proofs.InitialTypes.{initial_over}
+use Rattle.elab_rules.proofs.InitialTypes.{initial_over}
 use Rattle.elab_phrases.proofs.Staying.{early_over_later, grows, mentions_grew, over_later, own_stays, settled_stays, table_keeps, taken_keeps}
 
 pub all_at : {A : Type 0} (P : A → Type 0) (xs : List A) (n : ℕ) (x : A) → All P xs → slice_get xs n ≡ Some x → P x

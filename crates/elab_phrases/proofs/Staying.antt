@@ -26,7 +26,7 @@ use Rattle.elab_rules.specs.Views.{state_of}
 use Rattle.elab_rules.specs.Wheres.{types_of}
 use Rattle.elab_rules.proofs.Gone.{free_is}
 use Rattle.elab_rules.proofs.KeptNames.{Keeps, keeps_same, keeps_through}
-use Rattle.elab_phrases.proofs.LaterNames.{get_taken, length_taken, over_resolved}
+use Rattle.elab_rules.proofs.LaterNames.{get_taken, length_taken, over_resolved}
 
 -- ---- names that are kept
 pub keeps_itself : (p : Progress) → KeepsNames p p

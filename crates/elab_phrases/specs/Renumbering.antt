@@ -1,22 +1,15 @@
 -- How the code numbers names anew.
 use Rattle.std.specs.Prelude.{ℕ, slice_index_or}
-use Rattle.type_core.specs.declared.ty.Field.{Field}
-use Rattle.type_core.specs.declared.ty.Ty.{Ty}
-use Rattle.type_core.specs.declared.ty.Ty.TheFolds.{fold-Field}
 use Rattle.elab_rules.specs.declared.entry.UnitEntry.{UnitEntry}
 use Rattle.elab_phrases.specs.declared.renumbering.Numbering.{Numbering}
 use Rattle.elab_phrases.specs.declared.renumbering.Numbering.TheVariants.{Copied, Kept}
-use Rattle.elab_rules.specs.Copies.{rename_step, rename_field_step, renumbered, with_numbers}
+use Rattle.elab_rules.specs.Copies.{renumbered, with_numbers}
 use Rattle.elab_rules.specs.Replacing.{environment_with}
 
 -- the new number of a name
 abbrev pub numbers_of : Numbering → ℕ → ℕ
 numbers_of (Copied own first) n = renumbered own.now.numbers.items first n
 numbers_of (Kept numbers) n = slice_index_or numbers.now n 0
-
--- a field with the names of its type numbered anew
-abbrev pub field_with_numbers : (ℕ → ℕ) → Field → Field
-field_with_numbers f = fold-Field Ty Field (rename_step f) rename_field_step
 
 -- a unit with the names of its types numbered anew
 abbrev pub unit_with_numbers : (ℕ → ℕ) → UnitEntry → UnitEntry

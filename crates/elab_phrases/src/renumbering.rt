@@ -1,8 +1,8 @@
 // Types whose names are numbered anew.
 ghost use Rattle.std.specs.Prelude.{◌≡◌, ◌+◌, ◌<◌, IfOk, IsTrue, length, map};
-ghost use Rattle.elab_rules.specs.Copies.{with_numbers};
+ghost use Rattle.elab_rules.specs.Copies.{field_with_numbers, with_numbers};
 ghost use Rattle.elab_rules.specs.Replacing.{entry_with, environment_with, type_with, value_with};
-ghost use Rattle.elab_phrases.specs.Renumbering.{field_with_numbers, numbers_of, unit_with_numbers};
+ghost use Rattle.elab_phrases.specs.Renumbering.{numbers_of, unit_with_numbers};
 
 use elab_rules::closing::scheme_of;
 use elab_rules::copying::copy_texts;

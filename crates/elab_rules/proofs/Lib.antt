@@ -23,3 +23,14 @@ pub mod PairedOutcomes
 pub mod AddedNames
 pub mod FreeNames
 pub mod ElsewhereNames
+pub mod Levels
+pub mod LaterNames
+pub mod Renumbered
+pub mod IndexWith
+pub mod LookedUp
+pub mod ClosedAgain
+pub mod InitialTypes
+pub mod InitialSettled
+pub mod Least
+pub mod Appended
+pub mod CopiedArities

@@ -9,7 +9,7 @@ use Rattle.type_core.specs.declared.ty.Ty.{Ty}
 use Rattle.type_core.specs.declared.ty.Field.{Field}
 use Rattle.type_core.specs.declared.ty.Ty.TheVariants as ty
 use Rattle.type_core.specs.declared.ty.Ty.TheOpen.{Ty-F, Field-F, Var, Con, Rec, Tup, Arrow}
-use Rattle.type_core.specs.declared.ty.Ty.TheFolds.{fold-Ty}
+use Rattle.type_core.specs.declared.ty.Ty.TheFolds.{fold-Field, fold-Ty}
 use Rattle.type_core.specs.Lists.{sum_of}
 use Rattle.elab_rules.specs.declared.entry.Entry.TheOpen.{Entry-F, Tycon as tycon, Value, Structure}
 use Rattle.elab_rules.specs.declared.entry.Entry.TheFolds.{fold-Entry}
@@ -67,6 +67,10 @@ rename_field_step field = record { label = field.label; ty = field.ty }
 -- a type with its names numbered anew
 abbrev pub with_numbers : (ℕ → ℕ) → Ty → Ty
 with_numbers f = fold-Ty Ty Field (rename_step f) rename_field_step
+
+-- a field with the names of its type numbered anew
+abbrev pub field_with_numbers : (ℕ → ℕ) → Field → Field
+field_with_numbers f = fold-Field Ty Field (rename_step f) rename_field_step
 
 -- a name whose path begins with another one in place of so many bytes
 abbrev pub name_copied : List ℕ → ℕ → TypeName → TypeName

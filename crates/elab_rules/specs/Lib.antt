@@ -24,7 +24,6 @@ pub mod Sharing
 pub mod Wheres
 pub mod Copies
 pub mod Specifications
-pub mod Spelling
 pub mod Files
 pub mod Library
 pub mod Settling
@@ -35,4 +34,3 @@ pub mod Extended
 pub mod Details
 pub mod Tops
 pub mod Joining
-pub mod Soundness

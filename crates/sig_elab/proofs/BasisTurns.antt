@@ -21,7 +21,7 @@ use Rattle.elab_types.proofs.Lists.{dropped}
 use Rattle.elab_rules.proofs.Outcomes.{handed_on}
 use Rattle.elab_rules.proofs.ParameterTexts.{held_more, none_more}
 use Rattle.elab_phrases.proofs.SoughtLevels.{none_mapped}
-use Rattle.sig_elab.proofs.Levels.{binding_is}
+use Rattle.elab_rules.proofs.Levels.{binding_is}
 
 -- ---- a step that fails ends what follows it
 basis_fails : (o : Outcome Basis) (next : Basis → Outcome Basis) (e : ElabRefusal) → GivesBasis o (Err e) → GivesBasis (and_then o next) (Err e)

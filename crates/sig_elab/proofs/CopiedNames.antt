@@ -23,8 +23,8 @@ use Rattle.elab_rules.specs.Replacing.{environment_with}
 use Rattle.elab_rules.specs.Standing.{Mentions}
 use Rattle.elab_rules.specs.States.{State, is_free, weighed}
 use Rattle.elab_rules.specs.Views.{state_of}
-use Rattle.sig_elab.proofs.Appended.{get_appended}
-use Rattle.sig_elab.proofs.CopiedSettled.{kept_within}
+use Rattle.elab_rules.proofs.Appended.{get_appended}
+use Rattle.elab_rules.proofs.CopiedArities.{kept_within}
 use Rattle.elab_rules.proofs.Gone.{flags_more}
 use Rattle.elab_rules.proofs.KeptNames.{Keeps, keeps_added}
 use Rattle.sig_elab.proofs.KeptNumbers.{not_realized}

@@ -17,7 +17,8 @@ use Rattle.elab_phrases.proofs.EntriesByNow.{settled_is}
 use Rattle.elab_phrases.proofs.Stands.{stands_mentions, stands_with}
 use Rattle.elab_phrases.proofs.Staying.{mentions_twice}
 use Rattle.sig_elab.proofs.CopiedNames.{signature_copied}
-use Rattle.sig_elab.proofs.CopiedSettled.{AreWithin, copied_settled, own_within}
+use Rattle.elab_rules.proofs.CopiedArities.{AreWithin, own_within}
+use Rattle.sig_elab.proofs.CopiedSettled.{copied_settled}
 
 -- before, once it was weighed, and once its names were copied
 module _ (p w q : Progress) (site : Site) (unit : UnitEntry) (own : List ℕ) (body : Environment) (table : w.table ≡ p.table) (mentions : Mentions w q) where

@@ -7,7 +7,7 @@ use Rattle.elab_rules.specs.declared.progress.Progress.{Progress}
 use Rattle.elab_rules.specs.declared.units.Units.{Units}
 use Rattle.elab_rules.specs.Details.{HaveOwn}
 use Rattle.elab_rules.specs.Library.{Basis}
-use Rattle.elab_rules.specs.Soundness.{IsSoundBasis}
+use Rattle.elab_soundness.specs.Soundness.{IsSoundBasis}
 use Rattle.elab_rules.specs.Standing.{IsSettled}
 use Rattle.elab_rules.specs.States.{State}
 use Rattle.elab_rules.specs.Views.{gone_of, state_of}

@@ -11,7 +11,7 @@ use Rattle.elab_rules.specs.Copies.{numbers_from}
 use Rattle.elab_rules.specs.Library.{count_kept, kept_names, number_kept}
 use Rattle.elab_rules.specs.Views.{gone_of}
 use Rattle.elab_rules.proofs.Gone.{at_number}
-use Rattle.sig_elab.proofs.Appended.{get_appended, later_at}
+use Rattle.elab_rules.proofs.Appended.{get_appended, later_at}
 
 -- ---- which names are left
 -- what isn't described was not realized

@@ -1,8 +1,5 @@
-mod Levels
-mod spelling
 mod Listings
 mod CopiedSettled
-mod valid
 mod AcceptedFiles
 mod UnitsKept
 mod UnitsListed
@@ -16,7 +13,6 @@ mod ListedAlike
 mod UnitTotals
 mod CopiedNames
 mod SpecLevels
-mod Appended
 mod CopiedSignatures
 mod SignaturesFound
 mod UnitsStay

@@ -29,7 +29,7 @@ use Rattle.elab_rules.specs.States.{State}
 use Rattle.elab_rules.specs.TypeDescriptions.{types_described}
 use Rattle.elab_rules.specs.Values.{values_described}
 use Rattle.elab_rules.specs.Views.{AgreesBody, GivesBody, body_at, site_at, site_of, state_of}
-use Rattle.sig_elab.proofs.Levels.{body_elaborated}
+use Rattle.elab_rules.proofs.Levels.{body_elaborated}
 use Rattle.elab_rules.proofs.Outcomes.{handed_on}
 use Rattle.sig_elab.proofs.SitesWithin.{from_by_now}
 

@@ -15,9 +15,9 @@ use Rattle.elab_rules.specs.Specifications.{Signature, are_new, binding_of, incl
 use Rattle.elab_rules.specs.States.{State, within}
 use Rattle.elab_rules.specs.Views.{GivesBody, body_at}
 use Rattle.elab_rules.proofs.Entries.{with_appended}
-use Rattle.elab_realizing.proofs.IndexWith.{new_with}
-use Rattle.sig_elab.proofs.Levels.{binding_is, first_is}
-use Rattle.elab_phrases.proofs.LookedUp.{new_structure_with}
+use Rattle.elab_rules.proofs.IndexWith.{new_with}
+use Rattle.elab_rules.proofs.Levels.{binding_is, first_is}
+use Rattle.elab_rules.proofs.LookedUp.{new_structure_with}
 use Rattle.elab_phrases.proofs.Turns.{body_same, ends}
 
 -- ---- a structure

@@ -31,7 +31,7 @@ use Rattle.elab_rules.specs.Views.{gone_of, state_of}
 use Rattle.sig_elab.proofs.KeptNumbers.{gone_at, not_realized}
 use Rattle.sig_elab.proofs.ListedAlike.{units_members_alike, units_tycons_alike}
 use Rattle.elab_types.proofs.Renamed.{as_normal, labels_renamed, size_renamed}
-use Rattle.elab_realizing.proofs.Renumbered.{labels_numbered, normal_size_numbered, size_numbered}
+use Rattle.elab_rules.proofs.Renumbered.{labels_numbered, normal_size_numbered, size_numbered}
 
 -- ---- lists of one more
 sum_appended : {A : Type 0} (f : A → ℕ) (xs ys : List A) → sum_of (map f (xs ++ ys)) ≡ sum_of (map f xs) + sum_of (map f ys)

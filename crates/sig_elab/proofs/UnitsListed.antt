@@ -19,7 +19,7 @@ use Rattle.elab_rules.specs.Views.{gone_of}
 use Rattle.elab_rules.specs.Wheres.{types_of}
 use Rattle.elab_rules.proofs.Entries.{with_agrees}
 use Rattle.elab_phrases.specs.Renumbering.{unit_with_numbers}
-use Rattle.elab_realizing.proofs.Renumbered.{numberings_agree}
+use Rattle.elab_rules.proofs.Renumbered.{numberings_agree}
 
 -- ---- settled units, whose types have only names of the table
 module _ (table : Table) (f : ℕ → ℕ) (same : (n : ℕ) → n < length table.names → f n ≡ number_kept (gone_of table) n) where

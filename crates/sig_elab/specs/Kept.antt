@@ -4,7 +4,7 @@ use Rattle.elab_rules.specs.declared.progress.Progress.{Progress}
 use Rattle.sig_elab.specs.declared.totals.Totals.{Totals}
 use Rattle.elab_rules.specs.declared.units.Units.{Units}
 use Rattle.elab_rules.specs.Details.{HaveOwn}
-use Rattle.elab_rules.specs.Soundness.{IsSoundBasis}
+use Rattle.elab_soundness.specs.Soundness.{IsSoundBasis}
 use Rattle.elab_rules.specs.Standing.{IsSettled}
 use Rattle.sig_elab.specs.Totals.{AreTotals}
 use Rattle.elab_rules.specs.Tracking.{IsTracked}

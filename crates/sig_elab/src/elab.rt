@@ -8,7 +8,7 @@ ghost use Rattle.sig_elab.specs.Elaborators.{GivesBasis, basis_of};
 ghost use Rattle.elab_rules.specs.Files.{elaborated};
 ghost use Rattle.elab_rules.specs.Library.{empty_basis, library};
 ghost use Rattle.elab_rules.specs.Outcome.{Agrees};
-ghost use Rattle.elab_rules.specs.Soundness.{IsSoundBasis};
+ghost use Rattle.elab_soundness.specs.Soundness.{IsSoundBasis};
 ghost use Rattle.elab_types.specs.Sources.{AreWithin, texts_of};
 
 use crate::declarations::declare_all;
@@ -23,6 +23,7 @@ use elab_rules::progress::Progress;
 use elab_rules::refusal::ElabRefusal;
 use elab_rules::scope::Scope;
 use elab_rules::units::Units;
+use elab_soundness::libraries_of_accepted_files_are_valid;
 use elab_types::{Source, first_tokens, tokens_within};
 use sig_base::NoMemory;
 use sig_parser::SourceFile;
@@ -74,6 +75,7 @@ fn elaborate_file<'a>(
     ensures sound { IfOk result (λ after. IsSoundBasis (basis_of after)) }
     ensures before { IfOk result (λ after. after.before.now ≡ draft.entry.before.now) }
 {
+    libraries_of_accepted_files_are_valid();
     tokens_within(bytes, tokens);
     let firsts = first_tokens(alloc, bytes, tokens)?;
     let initial = initial_environment(alloc)?;
@@ -100,6 +102,7 @@ impl Elab {
     pub fn new(alloc: Global) -> Result<Elab, NoMemory>
         ensures empty { IfOk result (λ e. e ≡ empty_basis) }
     {
+        libraries_of_accepted_files_are_valid();
         Ok(Elab {
             alloc,
             units: Units::new(alloc),
@@ -169,6 +172,7 @@ impl Elab {
         ensures valid { IfOk result (λ l. IsValidLibrary l) }
     {
         self.is_sound();
+        libraries_of_accepted_files_are_valid();
         let library = self.listed(alloc)?;
         Ok(library)
     }

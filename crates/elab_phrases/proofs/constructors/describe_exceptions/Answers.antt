@@ -11,7 +11,7 @@ use Rattle.elab_rules.specs.Standing.{IsSettledType}
 use Rattle.elab_rules.specs.Wheres.{types_of}
 use Rattle.elab_rules.proofs.Entries.{all_types_parts, types_type}
 use Rattle.elab_rules.proofs.FoundOver.{entry_over}
-use Rattle.elab_phrases.proofs.InitialTypes.{initial_over, initial_resolved}
+use Rattle.elab_rules.proofs.InitialTypes.{initial_over, initial_resolved}
 use Rattle.elab_phrases.proofs.constructors.describe_exceptions.Goals as goal
 
 -- what holds of all types of the initial environment holds of `exn`

@@ -1,6 +1,6 @@
 use Rattle.std.proofs.Common.{◌≡◌, ◌++◌, map, drop}
-use Rattle.elab_rules.specs.Copies.{with_numbers}
-use Rattle.elab_phrases.specs.Renumbering.{field_with_numbers, numbers_of}
+use Rattle.elab_rules.specs.Copies.{field_with_numbers, with_numbers}
+use Rattle.elab_phrases.specs.Renumbering.{numbers_of}
 use Rattle.elab_phrases.proofs.renumbering.+renumbering.Given as goal
 
 abbrev pub invariant-renumber_all-loop-part : goal.invariant-renumber_all-loop-part

@@ -10,7 +10,7 @@ use Rattle.elab_rules.specs.Environments.{Environment, value_in, values_in}
 use Rattle.elab_rules.specs.Replacing.{environment_with, value_with}
 use Rattle.elab_rules.specs.Standing.{IsSettledScheme}
 use Rattle.elab_rules.proofs.FoundOver.{value_in_over}
-use Rattle.elab_phrases.proofs.LookedUp.{value_in_with}
+use Rattle.elab_rules.proofs.LookedUp.{value_in_with}
 use Rattle.elab_types.proofs.Lists.{dropped}
 use Rattle.elab_phrases.proofs.replicas.values_by_now.Goals as goal
 

@@ -6,7 +6,7 @@ use Rattle.elab_rules.specs.Copies.{environment_weight, renumbered, with_copies,
 use Rattle.elab_rules.specs.Distinct.{AreDistinct}
 use Rattle.elab_rules.specs.Replacing.{environment_with}
 use Rattle.elab_rules.specs.Views.{state_of}
-use Rattle.elab_realizing.proofs.IndexWith.{distinct_with}
+use Rattle.elab_rules.proofs.IndexWith.{distinct_with}
 use Rattle.sig_elab.proofs.CopiedNames.{own_described}
 use Rattle.sig_elab.proofs.CopiedSignatures.{body_settled, copy_given, copy_mentions, copy_stands}
 use Rattle.sig_elab.proofs.copies.copy_signature.Goals as goal

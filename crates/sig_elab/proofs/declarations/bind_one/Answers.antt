@@ -9,7 +9,7 @@ use Rattle.elab_rules.specs.Views.{state_of}
 use Rattle.elab_types.specs.Sources.{text_at}
 use Rattle.elab_types.specs.Views.{texts}
 use Rattle.elab_phrases.proofs.Staying.{grows}
-use Rattle.sig_elab.proofs.Levels.{binding_is}
+use Rattle.elab_rules.proofs.Levels.{binding_is}
 use Rattle.sig_elab.proofs.Bindings.{bound_is, refused_with, second_fails, seen_as, step_failed, third_fails, totals_stay, unit_is}
 use Rattle.sig_elab.proofs.UnitsStay.{kept_mentions, kept_more, weighed_mentions}
 use Rattle.sig_elab.proofs.declarations.bind_one.Goals as goal

@@ -5,7 +5,7 @@ use Rattle.elab_rules.specs.Indexes.{IsIndex}
 use Rattle.elab_rules.specs.Replacing.{environment_with}
 use Rattle.elab_rules.specs.Standing.{IsSettled}
 use Rattle.elab_phrases.proofs.EntriesByNow.{by_now_settled}
-use Rattle.elab_realizing.proofs.IndexWith.{distinct_with, index_with}
+use Rattle.elab_rules.proofs.IndexWith.{distinct_with, index_with}
 use Rattle.sig_elab.proofs.declarations.unit_of.Goals as goal
 
 pub returns-clause-detail : goal.returns-clause-detail

@@ -14,7 +14,7 @@ use Rattle.elab_rules.specs.States.{within}
 use Rattle.elab_rules.specs.Views.{body_at, site_at, site_of, state_of}
 use Rattle.elab_types.specs.Views.{texts}
 use Rattle.elab_rules.proofs.Entries.{all_types_appended}
-use Rattle.sig_elab.proofs.Levels.{and_parts_applied, expression_is, expression_parts, name_elaborated}
+use Rattle.elab_rules.proofs.Levels.{and_parts_applied, expression_is, expression_parts, name_elaborated}
 use Rattle.elab_phrases.proofs.Sites.{site_stays}
 use Rattle.sig_elab.proofs.SitesWithin.{begins_taken, begins_whole, begins_within, grew_at, inner_site, own_was, stands_around, stands_empty, stands_same, stands_without, stood_at, then_if_ok, within_by_now}
 use Rattle.sig_elab.proofs.SpecLevels.{body_begun, datatypes_specified, eqtypes_specified, exceptions_specified, inclusions_specified, replica_specified, sharing_done, sharing_fails, sharing_specified, sharing_types_specified, spec_same, structures_specified, types_specified, values_specified}

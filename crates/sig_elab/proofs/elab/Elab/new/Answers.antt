@@ -1,12 +1,11 @@
 use Rattle.std.proofs.Common.{◌≡◌, List, ap₂, subst, sym}
 use Rattle.elab_rules.specs.declared.entry.UnitEntry.{UnitEntry}
 use Rattle.elab_rules.specs.Library.{Basis, empty_basis}
-use Rattle.elab_rules.specs.Soundness.{IsSoundBasis}
+use Rattle.elab_soundness.specs.Soundness.{IsSoundBasis}
 use Rattle.elab_rules.specs.States.{State}
 use Rattle.sig_elab.specs.Totals.{AreTotals}
 use Rattle.elab_rules.specs.Views.{state_of}
 use Rattle.sig_elab.proofs.UnitsKept.{none_kept}
-use Rattle.sig_elab.proofs.valid.Files.{sound_at_first}
 use Rattle.sig_elab.proofs.elab.Elab.new.Goals as goal
 
 abbrev basis_by : List UnitEntry → State → Basis
@@ -20,5 +19,5 @@ invariant_of-result c =
       kept = none_kept c.new.result progress c.new.ensures.empty;
       counted = subst (AreTotals c.none.result) (sym e) c.none.ensures.empty;
       tracked = c.in_ok-new.ensures.tracked;
-      sound = subst IsSoundBasis (sym e) sound_at_first;
+      sound = subst IsSoundBasis (sym e) c.libraries_of_accepted_files_are_valid.ensures.first;
     }
