@@ -3,6 +3,7 @@ use Rattle.std.proofs.Common.{◌≡◌, ℕ, Bool, true, false, List, length, r
 use Rattle.std.specs.Prelude.{IsTrue, Result, Ok, Err}
 use Rattle.std.proofs.lemmas.Bool.{false≢true}
 use Rattle.type_core.specs.declared.library.Library.{Library}
+use Rattle.type_core.specs.ValidLibrary.{IsValidLibrary}
 use Rattle.query_cli.specs.declared.command.Command.{Command}
 use Rattle.query_cli.specs.declared.command.Command.TheVariants as command
 use Rattle.lib_load.specs.declared.refusals.LoadRefusal.{LoadRefusal}
@@ -28,14 +29,18 @@ over_library (command.Find mode query index names from_index) files library text
 over_library (command.Index path index) files library texts outcome is loads answers = absurd (false≢true is)
 over_library (command.Gen n) files library texts outcome is loads answers = absurd (false≢true is)
 
-module _ (one : OneOutcome) (one_index : OneIndexing) where
+-- the library of so many files, of which this was read, is valid
+abbrev pub AreValid : Type 0
+AreValid = (count : ℕ) (texts : List Given) (library : Library) → Loads count (Ok library) texts → IsValidLibrary library
+
+module _ (one : OneOutcome) (one_index : OneIndexing) (valid : AreValid) where
   over : (asked : Command) (givens : List Given) (outcome : Outcome) → Due asked givens outcome → IsTrue (reads_index asked) → (files : List (List ℕ)) (texts : List Given) → IsIndexOfFiles (length files) texts givens
       → Due (over_files files asked) texts outcome
   over asked givens outcome (refusal r loads) is files texts index =
-      let held : LoadsIndex (Ok index.library) givens = subst (λ g. LoadsIndex (Ok index.library) g) (sym index.held) (found (index.valid, refl)) in
+      let held : LoadsIndex (Ok index.library) givens = subst (λ g. LoadsIndex (Ok index.library) g) (sym index.held) (found (valid (length files) texts index.library index.loaded, refl)) in
       absurd (ok_err_not index.library r _ _ refl refl (one_index givens _ _ held (of_index (reads_index asked) (length (paths_of asked)) (Err r) givens is loads)))
   over asked givens outcome (answer library loads answers) is files texts index =
-      let held : LoadsIndex (Ok index.library) givens = subst (λ g. LoadsIndex (Ok index.library) g) (sym index.held) (found (index.valid, refl)) in
+      let held : LoadsIndex (Ok index.library) givens = subst (λ g. LoadsIndex (Ok index.library) g) (sym index.held) (found (valid (length files) texts index.library index.loaded, refl)) in
       let same : library ≡ index.library = same_ok library index.library _ _ refl refl (one_index givens _ _ (of_index (reads_index asked) (length (paths_of asked)) (Ok library) givens is loads) held) in
       over_library asked files index.library texts outcome is index.loaded (subst (λ l. Answers l asked outcome) same answers)
 

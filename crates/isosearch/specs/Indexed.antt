@@ -1,7 +1,6 @@
 -- An index file changes no byte.
 use Rattle.std.specs.Prelude.{◌≡◌, ◌↔◌, ℕ, false, IsTrue, List, [], ◌∷◌, length, Ok}
 use Rattle.type_core.specs.declared.library.Library.{Library}
-use Rattle.type_core.specs.ValidLibrary.{IsValidLibrary}
 use Rattle.query_cli.specs.declared.command.Command.{Command}
 use Rattle.query_cli.specs.declared.command.Command.TheVariants as command
 use Rattle.lib_index.specs.IndexText.{index_text}
@@ -16,10 +15,9 @@ over_files files (command.Listing index from_index) = command.Listing files fals
 over_files files (command.Find mode query index names from_index) = command.Find mode query files names false
 over_files files other = other
 
--- what was read is the index text of the library of so many files, of which these texts were read; it is valid
+-- what was read is the index text of the library of so many files, of which these texts were read
 pub record IsIndexOfFiles (count : ℕ) (texts givens : List Given) : Type 0 where
   pub library : Library
-  pub valid : IsValidLibrary library
   pub loaded : Loads count (Ok library) texts
   pub held : givens ≡ text (index_text library) ∷ []
 

@@ -6,7 +6,7 @@ ghost use Rattle.isosearch.specs.Indexed.{ChangesNoByte};
 ghost use Rattle.isosearch.specs.Outcome.{Due, Outcome};
 
 use lib_gen::summaries_are_one;
-use lib_load::{files_have_one_outcome, indexes_have_one_outcome};
+use lib_load::{files_have_one_outcome, indexes_have_one_outcome, libraries_of_files_are_valid};
 
 /// Where this was read of the files, at most one outcome is due.
 pub fn one_outcome()
@@ -25,4 +25,5 @@ pub fn indexes_change_no_byte()
 {
     one_outcome();
     indexes_have_one_outcome();
+    libraries_of_files_are_valid();
 }

@@ -6,3 +6,4 @@ pub mod OneLoading
 pub mod OneIndex
 pub mod IndexTold
 pub mod Taking
+pub mod ValidLibraries

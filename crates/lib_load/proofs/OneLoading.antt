@@ -11,10 +11,10 @@ use Rattle.lib_load.specs.Given.{Given}
 use Rattle.lib_load.specs.Loading.{Loads, TakesFile, TakesFiles, accepted, failed, in_turn, library_of, lined, long, none, refused, too_many, whole}
 
 -- what an answer holds is one, and it isn't both of the two
-same_ok : {A E : Type 0} (x y : A) (a b : Result A E) → a ≡ Ok x → b ≡ Ok y → a ≡ b → x ≡ y
+pub same_ok : {A E : Type 0} (x y : A) (a b : Result A E) → a ≡ Ok x → b ≡ Ok y → a ≡ b → x ≡ y
 same_ok x y a b is also same = cc
 
-ok_err_not : {A E : Type 0} (x : A) (y : E) (a b : Result A E) → a ≡ Ok x → b ≡ Err y → a ≡ b → ⊥
+pub ok_err_not : {A E : Type 0} (x : A) (y : E) (a b : Result A E) → a ≡ Ok x → b ≡ Err y → a ≡ b → ⊥
 ok_err_not x y a b is also same = cc
 
 module _ (lexing : Lexing) (one_file : OneTree File) where

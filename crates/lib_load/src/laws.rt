@@ -1,13 +1,15 @@
 // What holds of what was read.
-ghost use Rattle.std.specs.Prelude.{◌≡◌, ◌<◌, ℕ, List, Some, Result, length};
+ghost use Rattle.std.specs.Prelude.{◌≡◌, ◌<◌, ℕ, List, Ok, Some, Result, length};
 ghost use Rattle.sig_base.specs.FileMap.{FileMap};
 ghost use Rattle.type_core.specs.declared.library.Library.{Library};
+ghost use Rattle.type_core.specs.ValidLibrary.{IsValidLibrary};
 ghost use Rattle.lib_index.specs.Indexes.{IsNoIndex};
 ghost use Rattle.lib_load.specs.declared.refusals.LoadRefusal.{LoadRefusal};
 ghost use Rattle.lib_load.specs.Given.{AreHeld, GaveThese, Given, index_limit};
 ghost use Rattle.lib_load.specs.Indexes.{LoadsIndex};
 ghost use Rattle.lib_load.specs.Loading.{Loads};
 
+use elab_soundness::libraries_of_accepted_files_are_valid;
 use lib_index::{index_texts_are_short, index_texts_tell_libraries};
 use sig_base::{Files, files_hold_what_they_give};
 use sml_lexer::{no_refusal, one_list, one_refusal};
@@ -27,6 +29,13 @@ pub fn files_have_one_outcome()
     no_refusal();
     one_refusal();
     sig_parser::one_tree();
+}
+
+/// The library of files, whatever was read of them, is valid.
+pub fn libraries_of_files_are_valid()
+    ensures law { (count : ℕ) (givens : List Given) (library : Library) → Loads count (Ok library) givens → IsValidLibrary library }
+{
+    libraries_of_accepted_files_are_valid();
 }
 
 /// One thing comes of what was read of an index file.

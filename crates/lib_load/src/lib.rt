@@ -15,7 +15,7 @@ mod refusals;
 pub use index_file::load_index;
 pub use laws::{
     files_have_one_outcome, given_texts_are_held, indexes_have_one_outcome,
-    long_files_are_no_indexes,
+    libraries_of_files_are_valid, long_files_are_no_indexes,
 };
 pub use loading::{MAX_FILES, library_of_text, load_files};
 pub use refusals::{Fault, LoadRefusal};
