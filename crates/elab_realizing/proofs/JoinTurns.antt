@@ -17,7 +17,9 @@ use Rattle.elab_rules.specs.Sharing.{least_of}
 use Rattle.elab_rules.specs.Standing.{Grew}
 use Rattle.elab_rules.specs.Views.{numbers}
 use Rattle.elab_rules.proofs.Gone.{realized_more}
-use Rattle.elab_realizing.proofs.JoinedAll.{joined_in_turn, joined_itself, least_is, least_of_all, settled_arity, settled_own}
+use Rattle.elab_realizing.specs.InTurn.{joined_in_turn}
+use Rattle.elab_realizing.proofs.JoinedAll.{joined_itself, settled_arity, settled_own}
+use Rattle.elab_rules.proofs.Least.{least_is, least_of_all}
 use Rattle.elab_rules.proofs.KeptNames.{Keeps, keeps_same, keeps_settled}
 use Rattle.elab_types.proofs.Lists.{dropped}
 use Rattle.elab_rules.proofs.Tracked.{AreAlike, alike_itself, settled_alike, tracked_alike}

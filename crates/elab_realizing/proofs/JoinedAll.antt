@@ -21,6 +21,8 @@ use Rattle.elab_rules.specs.States.{State}
 use Rattle.elab_rules.specs.Views.{body_at, entries_at, gone_of, state_of}
 use Rattle.elab_rules.specs.Wheres.{types_of}
 use Rattle.elab_rules.proofs.Gone.{realized_more}
+use Rattle.elab_rules.proofs.Least.{least_is, least_of_all}
+use Rattle.elab_realizing.specs.InTurn.{joined_in_turn}
 use Rattle.elab_realizing.proofs.Joined.{joined_names}
 use Rattle.elab_realizing.proofs.JoinedNames.{is_realization, joined_entries, joined_flags, joined_realizations, joining_one, same_state}
 use Rattle.elab_phrases.proofs.Staying.{all_by}
@@ -60,37 +62,7 @@ distinct_all : (P : ℕ → Type 0) (ns : List ℕ) → All P ns → All P (dist
 distinct_all P [] all = All-nil P
 distinct_all P (n ∷ ns) all = All-cons P n (without_number n (distinct ns)) (All-head P n ns all) (filtered_all P (λ m. not (m == n)) (distinct ns) (distinct_all P ns (All-tail P n ns all)))
 
--- ---- the least
-least_of_two : (P : ℕ → Type 0) (n m : ℕ) → P n → P m → P (min n m)
-least_of_two P n m p q = by_case (nat_le n m) refl
-  where
-    by_case : (b : Bool) → nat_le n m ≡ b → P (min n m)
-    by_case true is = subst P (let l = leb-true n m is in let e : n ≡ min n m = omega (arith, l) in e) p
-    by_case false is = subst P (let l = leb-false n m is in let e : m ≡ min n m = omega (arith, l) in e) q
-
-pub least_is : (P : ℕ → Type 0) (n : ℕ) (ns : List ℕ) → P n → All P ns → P (least_of n ns)
-least_is P n [] p all = p
-least_is P n (m ∷ ms) p all = least_is P (min n m) ms (least_of_two P n m p (All-head P m ms all)) (All-tail P m ms all)
-
-least_below : (n : ℕ) (ns : List ℕ) → least_of n ns ≤ n
-least_below n [] = omega arith
-least_below n (m ∷ ms) = let l = least_below (min n m) ms in omega (arith, l)
-
-pub least_of_all : (n : ℕ) (ns : List ℕ) → All (λ k. least_of n ns ≤ k) (n ∷ ns)
-least_of_all n ns = All-cons (λ k. least_of n ns ≤ k) n ns (least_below n ns) (each n ns)
-  where
-    each : (n : ℕ) (ns : List ℕ) → All (λ k. least_of n ns ≤ k) ns
-    each n [] = All-nil (λ k. n ≤ k)
-    each n (m ∷ ms) = All-cons (λ k. least_of (min n m) ms ≤ k) m ms (let l = least_below (min n m) ms in omega (arith, l)) (each (min n m) ms)
-
--- ---- one name joined, where it is still free
-abbrev pub join_step : ℕ → ℕ → Table → Table
-join_step kept n table = if is_free table n then joined_table kept n table else table
-
-abbrev pub joined_in_turn : ℕ → List ℕ → Table → Table
-joined_in_turn kept [] table = table
-joined_in_turn kept (n ∷ ns) table = joined_in_turn kept ns (join_step kept n table)
-
+-- ---- tables
 same_table : (a b : Table) → a.names ≡ b.names → a.realizations ≡ b.realizations → a ≡ b
 same_table a b e f = λ i. record { names = e i; realizations = f i }
 

@@ -1,6 +1,4 @@
 pub mod Joined
-pub mod Renumbered
-pub mod IndexWith
 pub mod PathsShared
 pub mod JoinedNames
 pub mod JoinedAll
@@ -15,3 +13,6 @@ pub mod NamesShared
 pub mod StructuresShared
 pub mod EntryTests
 pub mod Agreed
+pub mod JoinedFunctions
+pub mod AlongPaths
+pub mod LeftOut

@@ -22,7 +22,7 @@ use Rattle.elab_types.specs.Sources.{text_at}
 use Rattle.elab_rules.specs.States.{State}
 use Rattle.elab_rules.specs.Views.{body_at, numbers, site_at, state_of}
 use Rattle.elab_types.specs.Views.{texts}
-use Rattle.elab_phrases.proofs.LookedUp.{found_with, type_along_with}
+use Rattle.elab_rules.proofs.LookedUp.{found_with, type_along_with}
 use Rattle.elab_types.proofs.Lists.{dropped}
 
 -- ---- the name at a token

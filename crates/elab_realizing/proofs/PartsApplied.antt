@@ -29,7 +29,7 @@ use Rattle.elab_rules.specs.Types.{Parameters, Place, typed}
 use Rattle.elab_rules.specs.Views.{GivesBody, body_at, site_at, state_of}
 use Rattle.elab_types.specs.Views.{texts}
 use Rattle.elab_rules.specs.Wheres.{part_applied, parts_applied, realized, realizing, realizing_place}
-use Rattle.elab_phrases.proofs.LookedUp.{found_with, type_along_with}
+use Rattle.elab_rules.proofs.LookedUp.{found_with, type_along_with}
 use Rattle.elab_types.proofs.Lists.{dropped}
 use Rattle.elab_rules.proofs.Outcomes.{handed_on}
 use Rattle.elab_phrases.proofs.Sites.{body_mentions}

@@ -18,8 +18,8 @@ use Rattle.elab_rules.specs.Replacing.{environment_with, type_with}
 use Rattle.elab_rules.specs.Sharing.{entry_paths, functions_shared, if_both, paths_from, paths_shared}
 use Rattle.elab_rules.specs.States.{State}
 use Rattle.elab_rules.proofs.Entries.{each_entry, induct_entry}
-use Rattle.elab_realizing.proofs.IndexWith.{paths_structure, paths_type, paths_value}
-use Rattle.elab_phrases.proofs.LookedUp.{found_with, type_along_with}
+use Rattle.elab_rules.proofs.IndexWith.{paths_structure, paths_type, paths_value}
+use Rattle.elab_rules.proofs.LookedUp.{found_with, type_along_with}
 use Rattle.elab_types.proofs.Lists.{dropped}
 use Rattle.elab_realizing.proofs.PathsShared.{shared_appended, structure_at_end, structure_is_found, type_at_end, type_is_found}
 
@@ -68,7 +68,7 @@ module _ (a b : List (List ℕ)) (token : ℕ) (site : Site) where
     nothing_below es = all_share_nothing es (each_entry SharesNothing entry_shares_nothing es)
 
 -- ---- along a path that no structure ends
-type_along_after : (ids : List (List ℕ)) (next : List ℕ) (more : List (List ℕ)) (env : Environment) → type_along (ids ++ next ∷ more) env ≡ option_and_then (type_along (next ∷ more)) (structure_along ids env)
+pub type_along_after : (ids : List (List ℕ)) (next : List ℕ) (more : List (List ℕ)) (env : Environment) → type_along (ids ++ next ∷ more) env ≡ option_and_then (type_along (next ∷ more)) (structure_along ids env)
 type_along_after [] next more env = refl
 type_along_after (x ∷ []) next more env = by_case (structure_in x env)
   where

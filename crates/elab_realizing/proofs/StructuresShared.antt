@@ -23,8 +23,8 @@ use Rattle.elab_types.specs.Sources.{text_at}
 use Rattle.elab_rules.specs.Standing.{AreOver}
 use Rattle.elab_rules.specs.States.{State}
 use Rattle.elab_rules.proofs.FoundOver.{structure_along_over}
-use Rattle.elab_realizing.proofs.IndexWith.{type_paths_with}
-use Rattle.elab_phrases.proofs.LookedUp.{structure_along_with}
+use Rattle.elab_rules.proofs.IndexWith.{type_paths_with}
+use Rattle.elab_rules.proofs.LookedUp.{structure_along_with}
 use Rattle.elab_types.proofs.Lists.{dropped}
 
 abbrev along : List (List ℕ) → ℕ → Environment → Option Environment
@@ -42,7 +42,7 @@ module _ (tokens : List ℕ) (i token d : ℕ) (site : Site) (own : Environment)
   found_next env some = ap (λ o. checked (is_some o) Unbound token (structures_found (drop (i + 1) tokens) site own)) some ∙ found_turn
 
 -- ---- by now
-some_with : {A B : Type 0} (f : A → B) (o : Option A) → is_some (option_map f o) ≡ is_some o
+pub some_with : {A B : Type 0} (f : A → B) (o : Option A) → is_some (option_map f o) ≡ is_some o
 some_with f None = refl
 some_with f (Some a) = refl
 
@@ -71,7 +71,7 @@ placed site by_now own (token ∷ tokens) (scope ∷ scopes) same found are =
     (ap (λ texts. along texts token own) same ∙ here.0 ∙ ap Some (sym head), placed site by_now own tokens scopes same here.1 rest)
 
 -- ---- one structure with another one
-two_shared : (i j : ℕ) (site : Site) (g : Ty → Ty) (whole first : Environment) (s : State) → along site.texts i whole ≡ Some first
+pub two_shared : (i j : ℕ) (site : Site) (g : Ty → Ty) (whole first : Environment) (s : State) → along site.texts i whole ≡ Some first
     → structures_shared i j site (environment_with g whole) s ≡ paths_shared (parts (text_at site.texts i)) (parts (text_at site.texts j)) j (paths_from [] first) site (environment_with g whole) s
 two_shared i j site g whole first s stands =
     ap (λ o. paths_shared (parts (text_at site.texts i)) (parts (text_at site.texts j)) j (type_paths (entries_of o)) site (environment_with g whole) s)

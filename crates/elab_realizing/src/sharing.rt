@@ -1,6 +1,6 @@
 // Sharing specifications (the Definition, rules 78 and following, and appendix A).
 ghost use Rattle.std.specs.Prelude.{◌≡◌, ◌++◌, ◌∷◌, [], ℕ, IfOk, IsTrue, List, OnOk, Some, drop, length, map, slice_get, ◌≤◌};
-ghost use Rattle.std.specs.List.{All};
+ghost use Rattle.std.specs.List.{All, Any};
 ghost use Rattle.elab_env.specs.Names.{arity_of};
 ghost use Rattle.elab_env.specs.Realizations.{function_resolved};
 ghost use Rattle.elab_env.specs.Table.{is_free};
@@ -13,6 +13,8 @@ ghost use Rattle.elab_rules.specs.LongIdentifiers.{structure_along as the_struct
 ghost use Rattle.elab_rules.specs.Sharing as spec;
 ghost use Rattle.elab_rules.specs.Sharing.{entries_of, entry_paths, first_shared, functions_shared, joined, least_of, paths_from, paths_shared, same_function, shared, structures_found, types_shared};
 ghost use Rattle.elab_types.specs.Sources.{text_at};
+ghost use Rattle.elab_realizing.specs.InTurn.{joined_in_turn};
+ghost use Rattle.elab_realizing.specs.SharedStructures.{AreShared, AreThere};
 ghost use Rattle.elab_rules.specs.Joining.{ArePlacedAt, IsEntryAlong, IsJoined};
 ghost use Rattle.elab_rules.specs.Standing.{Grew, Stands, AreOver};
 ghost use Rattle.elab_rules.specs.Views.{AgreesBody, GivesName, GivesNames, Passes, body_at, numbers, site_at, site_of, state_of};
@@ -75,6 +77,7 @@ fn join(first: NameId, others: &[NameId], progress: &mut Progress) -> Result<(),
     requires free { All (λ n. IsTrue (is_free progress.old.table n.0)) (first ∷ others.now) }
     requires arity { All (λ n. arity_of (slice_get progress.old.table.names n.0) ≡ arity_of (slice_get progress.old.table.names first.0)) others.now }
     ensures grew { OnOk result ((base : ℕ) → All (λ n. base ≤ n.0) (first ∷ others.now) → Grew base progress.old progress.new) }
+    ensures turns { OnOk result (progress.new.table ≡ joined_in_turn (least_of first.0 (numbers others.now)) (first.0 ∷ numbers others.now) progress.old.table) }
     ensures joined { OnOk result ((entries : List AnEntry) → AreOver progress.old.table.names entries → (body_at progress.new entries, state_of progress.new) ≡ joined (first.0 ∷ numbers others.now) (body_at progress.old entries) (state_of progress.old)) }
 {
     progress.table.is_sound();
@@ -171,6 +174,7 @@ fn share_functions(
     progress: &mut Progress,
 ) -> Result<(), ElabRefusal>
     requires over { IsOver progress.old.table.names f.now.body × IsOver progress.old.table.names g.now.body }
+    ensures same { OnOk result (function_resolved progress.new.table.realizations f.now ≡ function_resolved progress.new.table.realizations g.now) }
     ensures outcome { (site : bodies.Site) (entries : List AnEntry) → site.base ≡ base → AreOver progress.old.table.names entries → AgreesBody (functions_shared (function_resolved progress.old.table.realizations f.now) (function_resolved progress.old.table.realizations g.now) token site (body_at progress.old entries) (state_of progress.old)) result entries progress.new }
     ensures grew { OnOk result (Grew base progress.old progress.new) }
 {
@@ -205,6 +209,7 @@ fn share_entry(
     requires over { AreOver progress.old.table.names (entry.now ∷ []) }
     requires other_over { AreOver progress.old.table.names other.entries.now }
     ensures grew { OnOk result (Grew base progress.old progress.new) }
+    ensures same { OnOk result (AreShared progress.new.table.realizations (entry.now ∷ []) other.entry.entries.now) }
     ensures outcome { (whole : Environment) (a b path : List (List ℕ)) (site : bodies.Site) → site.base ≡ base → AreDistinct whole → AreOver progress.old.table.names whole
         → IsEntryAlong (a ++ path) entry.now whole → the_structure_along (b ++ path) whole ≡ Some other.entry.entries.now
         → AgreesBody (paths_shared a b token (entry_paths entry.now path) site (body_at progress.old whole) (state_of progress.old)) result whole progress.new }
@@ -236,6 +241,7 @@ fn share_all(
     requires over { AreOver progress.old.table.names entries.now }
     requires other_over { AreOver progress.old.table.names other.entries.now }
     ensures grew { OnOk result (Grew base progress.old progress.new) }
+    ensures same { OnOk result (AreShared progress.new.table.realizations entries.now other.entry.entries.now) }
     ensures outcome { (whole : Environment) (a b path : List (List ℕ)) (site : bodies.Site) → site.base ≡ base → AreDistinct whole → AreOver progress.old.table.names whole
         → the_structure_along (a ++ path) whole ≡ Some entries.now → the_structure_along (b ++ path) whole ≡ Some other.entry.entries.now
         → AgreesBody (paths_shared a b token (paths_from path entries.now) site (body_at progress.old whole) (state_of progress.old)) result whole progress.new }
@@ -279,6 +285,7 @@ fn share_first(
     requires others_over { All (λ scope. AreOver progress.old.table.names scope.entries.now) others.now }
     requires long { length others.now ≡ length tokens.now }
     ensures grew { OnOk result (Grew base progress.old progress.new) }
+    ensures same { OnOk result (All (λ scope. AreShared progress.new.table.realizations first.entry.entries.now scope.entries.now) others.now) }
     ensures outcome { (whole : Environment) (i : ℕ) (site : bodies.Site) → site.base ≡ base → AreDistinct whole → AreOver progress.old.table.names whole
         → ArePlacedAt site whole (i ∷ tokens.now) (first.entry ∷ others.now)
         → AgreesBody (first_shared i tokens.now site (body_at progress.old whole) (state_of progress.old)) result whole progress.new }
@@ -289,7 +296,48 @@ fn share_first(
     Ok(())
 }
 
-/// `sharing` of structures: each pair of them in lexicographic order.
+// Whether the other environment has what the entry has of type constructors, by their paths.
+#[cycle(having)]
+fn has_entry(entry: &Entry, other: Scope<'_>) -> bool
+    ensures there { IsTrue result → AreThere (entry.now ∷ []) other.entry.entries.now }
+{
+    match entry {
+        Entry::Tycon(entry) => other.find_type(entry.id.as_slice()).is_some(),
+        Entry::Value(_) => true,
+        Entry::Structure(id, entries) => match other.find_structure(id.as_slice()) {
+            None => false,
+            Some(inner) => has_all(entries.as_slice(), inner),
+        },
+    }
+}
+
+// Whether the other environment has each type constructor of the entries, by their paths.
+#[cycle(having)]
+fn has_all(entries: &[Entry], other: Scope<'_>) -> bool
+    ensures there { IsTrue result → AreThere entries.now other.entry.entries.now }
+{
+    for entry in entries {
+        if !has_entry(entry, other) {
+            return false;
+        }
+    }
+    true
+}
+
+// Whether one of the structures has each type constructor of the entries, by their paths.
+fn one_has_all(entries: &[Entry], structures: &[Scope<'_>]) -> bool
+    ensures there { IsTrue result → Any (λ scope. AreThere entries.now scope.entries.now) structures.now }
+{
+    for structure in structures {
+        if has_all(entries, *structure) {
+            return true;
+        }
+    }
+    false
+}
+
+/// `sharing` of structures: each pair of them in lexicographic order. A structure is passed over where an earlier one
+/// that was shared with all later ones has each of its type constructors, since nothing is left to share then.
 pub fn share_structures(
     alloc: Global,
     site: &Site<'_>,
@@ -305,9 +353,14 @@ pub fn share_structures(
 {
     let found = structures_at(alloc, tokens, site, own)?;
     let found = found.as_slice();
+    let mut shared = List::new(alloc);
     for (i, first) in found.iter().enumerate() {
+        if one_has_all(first.entries, shared.as_slice()) {
+            continue;
+        }
         let others = &found[i + 1..];
         share_first(alloc, *first, others, &tokens[i + 1..], site.base, progress)?;
+        shared.push(*first)?;
     }
     Ok(())
 }

@@ -7,7 +7,8 @@ use Rattle.elab_env.specs.Table.{is_free}
 use Rattle.elab_rules.specs.declared.progress.Progress.{Progress}
 use Rattle.elab_rules.specs.Views.{numbers}
 use Rattle.elab_realizing.proofs.JoinTurns.{arities_kept, first_joined, grew_joined, kept_free, least_alike, least_below_all, least_holds, next_joined}
-use Rattle.elab_realizing.proofs.JoinedAll.{joined_by_turns, joined_in_turn}
+use Rattle.elab_realizing.specs.InTurn.{joined_in_turn}
+use Rattle.elab_realizing.proofs.JoinedAll.{joined_by_turns}
 use Rattle.elab_phrases.proofs.Staying.{grew_twice}
 use Rattle.elab_realizing.proofs.sharing.join.Goals as goal
 
@@ -89,3 +90,13 @@ returns-clause-joined c = λ entries over.
     (All-map IsFree (λ (n : NameId). n.0) (c.args.first ∷ others) c.requires.free) (All-map IsAlike (λ (n : NameId). n.0) others c.requires.arity)
     (sym (at_drop_all (λ ns. joined_in_turn kept (numbers ns) q.table) others c.loop-n.n-index c.loop-n-test.false) ∙ c.loop-n.invariant.turns ∙ ap (λ k. joined_in_turn k (c.args.first.0 ∷ numbers others) p.table) c.least-kept.ensures.value)
     c.loop-n.invariant.weight over
+
+pub returns-clause-turns : goal.returns-clause-turns
+returns-clause-turns c =
+    let p = c.args.progress.now in
+    let q = c.loop-n.progress in
+    let others = c.args.others.now in
+    let kept = c.least-kept.result.0 in
+    sym (at_drop_all (λ ns. joined_in_turn kept (numbers ns) q.table) others c.loop-n.n-index c.loop-n-test.false)
+    ∙ c.loop-n.invariant.turns
+    ∙ ap (λ k. joined_in_turn k (c.args.first.0 ∷ numbers others) p.table) c.least-kept.ensures.value

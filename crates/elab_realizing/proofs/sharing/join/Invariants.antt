@@ -5,7 +5,7 @@ use Rattle.elab_env.specs.Names.{arity_of}
 use Rattle.elab_env.specs.Table.{is_free}
 use Rattle.elab_rules.specs.Standing.{Grew}
 use Rattle.elab_rules.specs.Views.{numbers}
-use Rattle.elab_realizing.proofs.JoinedAll.{joined_in_turn}
+use Rattle.elab_realizing.specs.InTurn.{joined_in_turn}
 use Rattle.elab_realizing.proofs.sharing.join.Given as goal
 
 abbrev pub invariant-loop-n : goal.invariant-loop-n

@@ -1,6 +1,7 @@
-use Rattle.std.proofs.Common.{◌<◌, ◌≤◌, [], get_or, length, refl, sym, ◌∙◌, subst, arith}
-use Rattle.std.proofs.lemmas.List.{at_drop_all}
-use Rattle.std.proofs.lemmas.List.Elements.{All-get_or}
+use Rattle.std.proofs.Common.{◌<◌, ◌≤◌, [], get_or, length, take, refl, sym, ◌∙◌, subst, arith}
+use Rattle.std.proofs.lemmas.List.{at_drop_all, take_all}
+use Rattle.std.proofs.lemmas.List.Elements.{All-get_or, All-more, All-nil, All-weaker}
+use Rattle.std.specs.List.{All}
 use Rattle.std.proofs.lemmas.Option.{slice_get-get_or}
 use Rattle.type_core.specs.declared.ty.Ty.{Ty}
 use Rattle.elab_env.specs.Realizations.{resolved}
@@ -13,10 +14,12 @@ use Rattle.elab_rules.specs.Views.{body_at, state_of}
 use Rattle.elab_realizing.proofs.Agreed.{agrees_failed, body_fails, fails_on}
 use Rattle.elab_phrases.proofs.Staying.{grew_itself, grew_twice, over_later}
 use Rattle.elab_realizing.proofs.StructuresShared.{at_path, first_moves_on, first_turn, placed_there}
+use Rattle.elab_realizing.specs.SharedStructures.{AreShared}
+use Rattle.elab_realizing.proofs.AlongPaths.{shared_more}
 use Rattle.elab_realizing.proofs.sharing.share_first.Goals as goal
 
 pub loop-j-init : goal.loop-j-init
-loop-j-init c = record { turns = λ whole i site same distinct over placed. refl; grew = grew_itself _ _ }
+loop-j-init c = record { turns = λ whole i site same distinct over placed. refl; same = All-nil _; grew = grew_itself _ _ }
 
 pub share_all-requires-clause-over : goal.share_all-requires-clause-over
 share_all-requires-clause-over c = over_later c.args.progress.now.table.names c.loop-j.progress.table.names c.loop-j.invariant.grew.names c.args.first.entries.now c.requires.over
@@ -59,6 +62,16 @@ loop-j-preserved c =
           first_moves_on i tokens c.loop-j.j token 0 site now whole c.args.first.entries.now (state_of q) _ within refl placed.0
           (c.loop-j.invariant.turns whole i site same distinct over placed) _ _
           (c.in_ok-share_all.ensures.outcome whole (parts (text_at site.texts i)) (parts (text_at site.texts token)) [] site same distinct over_now (at_path _ whole _ placed.0) (at_path _ whole _ other));
+      same =
+          let rs = q.table.realizations in
+          let later = c.share_all.new.progress.table.realizations in
+          let grew = c.in_ok-share_all.ensures.grew in
+          let first = c.args.first.entries.now in
+          let Was = λ (scope : Scope). AreShared rs first scope.entries.now in
+          let Is = λ (scope : Scope). AreShared later first scope.entries.now in
+          All-more Is c.args.others.now c.loop-j.j c.index-others-j.result c.loop-j-test.true
+          (All-weaker Was Is (λ scope was. shared_more rs grew.more later first scope.entries.now grew.realizations was) (take c.loop-j.j c.args.others.now) c.loop-j.invariant.same)
+          (subst Is c.index-others-j.is c.in_ok-share_all.ensures.same);
       grew = grew_twice _ _ _ _ c.loop-j.invariant.grew c.in_ok-share_all.ensures.grew;
     }
 
@@ -68,3 +81,8 @@ returns-clause-outcome c = λ whole i site same distinct over placed.
     let past : length c.args.tokens.now ≤ c.loop-j.j = omega (arith, c.requires.long, c.loop-j-test.false) in
     sym (c.loop-j.invariant.turns whole i site same distinct over placed)
     ∙ at_drop_all (λ ts. first_shared i ts site (body_at q whole) (state_of q)) c.args.tokens.now c.loop-j.j past
+
+pub returns-clause-same : goal.returns-clause-same
+returns-clause-same c =
+    let rs = c.loop-j.progress.table.realizations in
+    subst (All (λ (scope : Scope). AreShared rs c.args.first.entries.now scope.entries.now)) (take_all c.loop-j.j c.args.others.now c.loop-j-test.false) c.loop-j.invariant.same

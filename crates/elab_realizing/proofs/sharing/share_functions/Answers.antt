@@ -9,6 +9,8 @@ use Rattle.elab_rules.specs.Replacing.{flexible}
 use Rattle.elab_rules.specs.Sharing.{same_function}
 use Rattle.elab_rules.specs.Views.{body_at, number_of, state_of}
 use Rattle.elab_realizing.proofs.NamesShared.{arities_differ, both_joined, first_rigid, same_shared, second_rigid}
+use Rattle.elab_realizing.proofs.JoinedFunctions.{functions_joined}
+use Rattle.elab_realizing.proofs.SameFunctions.{one_by_test}
 use Rattle.elab_realizing.proofs.sharing.share_functions.Goals as goal
 
 pub returns-then-is_same_function-clause-outcome : goal.returns-then-is_same_function-clause-outcome
@@ -68,3 +70,15 @@ pub returns-clause-grew : goal.returns-clause-grew
 returns-clause-grew c =
     let IsLater = λ (k : NameId). c.args.base ≤ k.0 in
     c.in_ok-join.ensures.grew c.args.base (All-cons IsLater c.in-Some.n (c.in-Some-flexible_name.m ∷ []) c.in-Some.ensures.free.1 (All-cons IsLater c.in-Some-flexible_name.m [] c.in-Some-flexible_name.ensures.free.1 (All-nil IsLater)))
+
+pub returns-then-is_same_function-clause-same : goal.returns-then-is_same_function-clause-same
+returns-then-is_same_function-clause-same c =
+    sym c.in_ok-f.ensures.value ∙ one_by_test _ _ (sym c.is_same_function.ensures.value ∙ c.if-is_same_function.true) ∙ c.in_ok-g.ensures.value
+
+pub returns-clause-same : goal.returns-clause-same
+returns-clause-same c =
+    let p = c.args.progress.now in
+    let alike : c.arity.result ≡ c.arity-2.result = omega arith in
+    functions_joined c.args.base c.in-Some.n.0 c.in-Some-flexible_name.m.0 p.table _ (state_of p) c.args.f.now c.args.g.now _ _ c.in_ok-f.ensures.value c.in_ok-g.ensures.value
+    c.in-Some.ensures.value c.in-Some-flexible_name.ensures.value c.in-Some.ensures.free.0 c.in-Some-flexible_name.ensures.free.0
+    (sym c.arity.ensures.value ∙ alike ∙ c.arity-2.ensures.value) c.in_ok-f.ensures.settled.over c.in_ok-g.ensures.settled.over c.in_ok-join.ensures.turns

@@ -1,6 +1,7 @@
-use Rattle.std.proofs.Common.{◌≡◌, ◌≤◌, ◌<◌, ◌+◌, ◌-◌, ◌∷◌, List, length, drop, take, get_or, Ok, refl, sym, ap, ◌∙◌, subst, arith}
+use Rattle.std.proofs.Common.{◌≡◌, ◌≤◌, ◌<◌, ◌+◌, ◌-◌, [], ◌∷◌, List, append-nil, length, drop, take, get_or, Ok, refl, sym, ap, ◌∙◌, subst, arith}
+use Rattle.std.specs.List.{All, Any}
 use Rattle.std.proofs.lemmas.List.{at_drop_all, take_rest}
-use Rattle.std.proofs.lemmas.List.Elements.{All-drop, All-head, All-take}
+use Rattle.std.proofs.lemmas.List.Elements.{All-drop, All-head, All-nil, All-push, All-take}
 use Rattle.elab_rules.specs.declared.scope.Scope.{Scope}
 use Rattle.elab_rules.specs.Bodies.{Described}
 use Rattle.elab_rules.specs.Joining.{ArePlacedAt}
@@ -13,6 +14,8 @@ use Rattle.elab_realizing.proofs.Agreed.{agrees_failed, body_fails, fails_on, fa
 use Rattle.elab_phrases.proofs.Stands.{stands_later}
 use Rattle.elab_phrases.proofs.Staying.{grew_itself, grew_twice, over_later}
 use Rattle.elab_realizing.proofs.StructuresShared.{found_by_now, pair_moves_on, pair_turn, placed, placed_from, rest_long, scopes_long, scopes_over}
+use Rattle.elab_realizing.specs.SharedStructures.{AreShared, AreThere}
+use Rattle.elab_realizing.proofs.LeftOut.{IsSharedWith, all_still_shared, next_left_out}
 use Rattle.elab_env.specs.Realizations.{resolved}
 use Rattle.elab_realizing.proofs.sharing.share_structures.Goals as goal
 
@@ -27,7 +30,9 @@ returns-in_err-found-clause-outcome c =
     (fails_same _ _ _ (found_by_now (resolved p.table.realizations) tokens (site_of c.args.site.now) site own refl) (passes_fail (List Scope) _ _ c.in_err-found.ensures.outcome)))
 
 pub loop-i-init : goal.loop-i-init
-loop-i-init c = record { turns = refl; grew = grew_itself _ _ }
+loop-i-init c =
+    let rs = c.args.progress.now.table.realizations in
+    record { turns = refl; shared = subst (All (IsSharedWith rs c.as_slice-found.result.now)) (sym c.new-shared.ensures.empty) (All-nil (IsSharedWith rs c.as_slice-found.result.now)); grew = grew_itself _ _ }
 
 pub slice_bounds-share_first-count : goal.slice_bounds-share_first-count
 slice_bounds-share_first-count c =
@@ -119,7 +124,41 @@ loop-i-preserved c =
     record {
       turns = pair_moves_on tokens i token 0 site (body_at q own) (state_of q) _ within refl c.loop-i.invariant.turns _ _
           (ap (λ ts. first_shared token ts site (body_at q own) (state_of q)) (sym (take_rest tokens (i + 1))) ∙ c.in_ok-share_first.ensures.outcome own token site refl c.requires.distinct over_now here);
+      shared =
+          let later = c.share_first.new.progress.table.realizations in
+          let grew = c.in_ok-share_first.ensures.grew in
+          let first = c.index-found-i.result in
+          let P = IsSharedWith later (drop (i + 1) scopes) in
+          subst (All P) (sym c.in_ok-push.ensures.pushed)
+          (All-push P c.loop-i.shared first
+          (all_still_shared q.table.realizations grew.more later scopes i first c.loop-i.shared c.loop-i-test.true c.index-found-i.is grew.realizations c.loop-i.invariant.shared)
+          (subst (All (λ (scope : Scope). AreShared later first.entries.now scope.entries.now)) (take_rest scopes (i + 1)) c.in_ok-share_first.ensures.same));
       grew = grew_twice _ _ _ _ c.loop-i.invariant.grew c.in_ok-share_first.ensures.grew;
+    }
+
+pub loop-i-preserved-then-one_has_all : goal.loop-i-preserved-then-one_has_all
+loop-i-preserved-then-one_has_all c =
+    let p = c.args.progress.now in
+    let own = c.args.own.entries.now in
+    let tokens = c.args.tokens.now in
+    let site = site_at p c.args.site.now in
+    let scopes = c.as_slice-found.result.now in
+    let all : ArePlacedAt site own tokens scopes = subst (ArePlacedAt site own tokens) (sym c.as_slice-found.ensures.value) (placed (site_of c.args.site.now) site own tokens c.in_ok-found.found refl c.in_ok-found.ensures.outcome c.in_ok-found.ensures.found) in
+    let long : length c.as_slice-found.result.now ≡ length c.args.tokens.now = scopes_long _ c.args.tokens.now c.in_ok-found.found _ c.as_slice-found.ensures.value c.in_ok-found.ensures.found in
+    let q = c.loop-i.progress in
+    let i = c.loop-i.i in
+    let token = get_or tokens i 0 in
+    let within : i < length tokens = omega (arith, long, c.loop-i-test.true) in
+    let here = placed_from site own tokens _ scopes _ i token c.index-found-i.result all within c.loop-i-test.true refl c.index-found-i.is refl refl in
+    let over_now : AreOver q.table.names own = over_later p.table.names q.table.names c.loop-i.invariant.grew.names own c.requires.stands.sees.body in
+    let first = c.index-found-i.result in
+    let met = subst (Any (λ (scope : Scope). AreThere first.entries.now scope.entries.now)) c.as_slice.ensures.value (c.one_has_all.ensures.there c.if-one_has_all.true) in
+    record {
+      turns = pair_moves_on tokens i token 0 site (body_at q own) (state_of q) _ within refl c.loop-i.invariant.turns _ _
+          (next_left_out q.table.realizations site own (state_of q) scopes c.loop-i.shared i token (drop (i + 1) tokens) first c.loop-i-test.true c.index-found-i.is here c.loop-i.invariant.shared met);
+      shared = subst (λ rs. All (IsSharedWith rs (drop (i + 1) scopes)) c.loop-i.shared) (append-nil q.table.realizations)
+          (all_still_shared q.table.realizations [] _ scopes i first c.loop-i.shared c.loop-i-test.true c.index-found-i.is refl c.loop-i.invariant.shared);
+      grew = c.loop-i.invariant.grew;
     }
 
 pub returns-clause-outcome : goal.returns-clause-outcome

@@ -4,7 +4,7 @@ use Rattle.elab_env.specs.Realizations.{resolved}
 use Rattle.elab_rules.specs.Distinct.{AreDistinct}
 use Rattle.elab_rules.specs.Indexes.{IsIndex}
 use Rattle.elab_rules.specs.Replacing.{environment_with}
-use Rattle.elab_realizing.proofs.IndexWith.{distinct_with, index_with}
+use Rattle.elab_rules.proofs.IndexWith.{distinct_with, index_with}
 use Rattle.elab_realizing.proofs.wheres.body_by_now.Goals as goal
 
 pub invariant_of-result : goal.invariant_of-result
