@@ -1,6 +1,6 @@
 -- The library of files that are accepted is valid.
 use Rattle.std.proofs.Common.{◌≡◌, ℕ, ◌+◌, List, Ok, Err, refl, ap, sym, subst}
-use Rattle.std.specs.Prelude.{Result, ⊥}
+use Rattle.std.specs.Prelude.{Result}
 use Rattle.sml_lexer.specs.declared.token.Token.{Token}
 use Rattle.sml_lexer.specs.Tokens.{tokens as tokens_of}
 use Rattle.sig_parser.specs.declared.tree.SourceFile.{SourceFile}
